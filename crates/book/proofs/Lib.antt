@@ -1,0 +1,5 @@
+pub mod Computed
+pub mod Packed
+pub mod LegalBytes
+pub mod SpmpLaws
+pub mod GuestLaws

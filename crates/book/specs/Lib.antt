@@ -1,0 +1,5 @@
+pub mod Bits
+pub mod Books
+pub mod SpmpBook
+pub mod GuestBook
+pub mod Decisions

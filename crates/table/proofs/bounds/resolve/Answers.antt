@@ -1,0 +1,12 @@
+use native.Mathlib.Nat.{mod-lt}
+use native.Mathlib.Omega.{arith}
+use Prim.Native.Nat.{ℕ, _%_, _^_, _<_}
+use lib.Pow.{pow-pos, pow-mono}
+use Rattle.table.proofs.bounds.resolve.Needs as need
+
+pub bounds-of-requires : need.bounds-of-requires
+bounds-of-requires g c κs =
+    let top = pow-mono {i = g .F} {j = 60} (c .args .bits .fits) in
+    let a : c .args .address % 2 ^ g .F < 2 ^ g .F = mod-lt (c .args .address) (pow-pos (g .F)) in
+    let b : c .args .below % 2 ^ g .F < 2 ^ g .F = mod-lt (c .args .below) (pow-pos (g .F)) in
+    record { address = omega (arith, c .field .ensures, a, top); below = omega (arith, c .field-2 .ensures, b, top) }
