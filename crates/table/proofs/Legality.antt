@@ -7,11 +7,11 @@ use native.Mathlib.Nat.{pow-suc, mul-assoc, mul-comm, mul-le-mul-right, add-mul-
 use native.Mathlib.Omega.{arith}
 use lib.Dec.{eqb, ltb, lit<}
 use lib.Pow.{pow-add}
-use Rattle.std.proofs.shelf.Tests.{cases-eq, cond-true, cond-false, cond-both, lt-ltb, le-ltb}
+use Rattle.std.proofs.shelf.Tests.{cases-eq, cond-true, cond-false, cond-both, lt-ltb, le-ltb, eqb-true}
 use Rattle.book.specs.Bits.{withoutReserved}
 use Rattle.book.specs.Books.{Book, Laws, LegalByte}
 use Rattle.table.specs.Registers.{Registers, AllLegal, zeros}
-use Rattle.table.specs.RegisterCalls.{keptByte, packed, bytesWritten}
+use Rattle.table.specs.RegisterCalls.{keptByte, entryWritten, packed, bytesWritten}
 use Rattle.table.specs.Contexts.{wordsOf, restored, ComesBack}
 
 kept-legal : (b : Book) (old new : ℕ) → new < 256 → LegalByte b old → LegalByte b (keptByte b old new)
@@ -23,6 +23,10 @@ zeros-legal b l = λ i h. (lit< tt, l .zeroLegal)
 pub written-legal : (b : Book) (r : Registers) (s w n : ℕ) → AllLegal b r → AllLegal b (bytesWritten b r s w n)
 written-legal b r s w n l = λ i h.
     cond-both (not (ltb i s) && ltb i (s + n)) _ _ (LegalByte b) (λ _. kept-legal b (r .config i) _ (omega arith) (l i h)) (λ _. l i h)
+
+pub entry-legal : (f : ℕ) (b : Book) (r : Registers) (i c a : ℕ) → c < 256 → AllLegal b r → AllLegal b (entryWritten f b r i c a)
+entry-legal f b r i c a h l = λ k q.
+    cond-both (eqb k i) _ _ (LegalByte b) (λ e. kept-legal b (r .config i) c h (subst (λ (x : ℕ). LegalByte b (r .config x)) (eqb-true k i e) (l k q))) (λ _. l k q)
 
 pub restored-legal : (b : Book) (r : Registers) (word : ℕ → ℕ) → AllLegal b r → AllLegal b (restored b r word)
 restored-legal b r word l = λ i h.

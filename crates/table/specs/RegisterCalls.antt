@@ -8,7 +8,7 @@ use Rattle.std.specs.declared.option.Option.{Option}
 use Rattle.access.specs.Cases.{Report, refused, firstOf}
 use Rattle.book.specs.Bits.{bit, withoutReserved}
 use Rattle.book.specs.Books.{Book}
-use Rattle.table.specs.Registers.{Registers, put, withSwitch}
+use Rattle.table.specs.Registers.{Registers, put, withAddressAt, withConfigAt, withSwitch}
 use Rattle.table.specs.declared.refusal.RegisterRefusal.{RegisterRefusal}
 use Rattle.table.specs.declared.refusal.RegisterRefusal.the-variants.{NoSuchRegister, ShortBuffer}
 
@@ -24,6 +24,10 @@ noRegister count n = firstOf ((not (ltb n count), refused 31 []) ∷ [])
 -- Writing a configuration byte clears bits 5 and 6; a legal outcome is kept, and otherwise the old byte remains.
 abbrev pub keptByte : Book → ℕ → ℕ → ℕ
 keptByte b old new = cond (b .legal (withoutReserved new)) (withoutReserved new) old
+
+-- An entry written whole: its byte by the book's rule, and of the address the f bits that a register keeps.
+abbrev pub entryWritten : ℕ → Book → Registers → ℕ → ℕ → ℕ → Registers
+entryWritten f b r i c a = withAddressAt (withConfigAt r i (keptByte b (r .config i) c)) i (a % 2 ^ f)
 
 -- The configuration bytes of `count` entries from `start` on, lowest byte first.
 abbrev pub packed : Registers → ℕ → ℕ → ℕ

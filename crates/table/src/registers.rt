@@ -1,10 +1,12 @@
 // The registers of a table, whatever the width of its address fields.
 ghost use mathlib.Core.Path.{_≡_};
 ghost use Prim.Native.Nat.{_+_, _^_, _<_, _≤_};
-ghost use Rattle.table.specs.Registers.{AllLegal, withAddressAt, withConfigAt, zeros};
+ghost use Rattle.access.specs.Cases.{Does};
+ghost use Rattle.table.specs.Registers.{AllLegal, withAddressAt, withConfigAt, withSwitch, zeros};
 ghost use Rattle.table.specs.Tables.{regs};
-ghost use Rattle.table.specs.RegisterCalls.{keptByte, bytesWritten};
+ghost use Rattle.table.specs.RegisterCalls.{registerReport, noRegister, keptByte, entryWritten, bytesWritten};
 use super::entries::PlainTable;
+use super::refusal::RegisterRefusal;
 use super::table::Table;
 use access::field_bits::FieldBits;
 use book::book::RuleBook;
@@ -41,6 +43,27 @@ impl<B: RuleBook, const F: u32> Table<B, F> {
         if B::legal(cleared) {
             self.plain.write_config(i, cleared);
         }
+    }
+
+    // Writes the configuration byte of entry n by the book's rule, and its address register, which keeps F bits.
+    pub fn write_entry(&mut self, n: usize, byte: u8, address: u64) -> Result<(), RegisterRefusal>
+        ensures legal { λ _. ⌜ (AllLegal meaning (regs (now (self .entry))) → AllLegal meaning (regs (now (self .exit)))) ⌝ }
+        ensures written { λ r. ⌜ Does registerReport (noRegister 64 n) (λ _. regs (now (self .exit)) ≡ entryWritten F meaning (regs (now (self .entry))) n byte address) (regs (now (self .exit)) ≡ regs (now (self .entry))) r ⌝ }
+    {
+        if n >= 64 {
+            return Err(RegisterRefusal::NoSuchRegister);
+        }
+        let field = self.plain.bits.field(address);
+        self.write_byte(n, byte);
+        self.set_address(n, field);
+        Ok(())
+    }
+
+    // Writes the switch bits of all entries: bit i is that of entry i.
+    pub fn write_switches(&mut self, switches: u64)
+        ensures { λ _. ⌜ regs (now (self .exit)) ≡ withSwitch (regs (now (self .entry))) switches ⌝ }
+    {
+        self.plain.write_switches(switches);
     }
 
     // Writes the lowest bytes of a word to the entries from `start` on, each by the book's rule.
