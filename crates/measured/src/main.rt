@@ -1,0 +1,20 @@
+// Worked cases: some proved on the definitions, the rest run on the unit and compared with what they should be.
+mod bound_cases;
+mod check_cases;
+mod register_cases;
+mod row_cases;
+mod tally;
+mod worked;
+
+use std::io;
+use tally::Tally;
+
+fn main(rt: LibcRuntime) -> io::Result<()> {
+    worked::worked_cases();
+    let mut tally = Tally::new();
+    bound_cases::bounds(&rt, &mut tally)?;
+    row_cases::spmp_rows(&rt, &mut tally)?;
+    row_cases::guest_bytes(&rt, &mut tally)?;
+    check_cases::example_table(&rt, &mut tally)?;
+    tally.close(&rt)
+}
