@@ -22,17 +22,17 @@ abbrev pub LegalByte : Book → ℕ → Type 0
 LegalByte b c = (c < 256) × (b .legal c ≡ true)
 
 pub record Laws (b : Book) : Type 0 where
-  -- legality and permission ignore the A field
+  -- the A field has no say in what is legal or permitted
   pub legalIgnoresA : (c : ℕ) → c < 256 → b .legal c ≡ b .legal (withoutA c)
   pub permitsIgnoresA : (c : ℕ) (m : Mode) (sum : Bool) (k : Kind) → LegalByte b c → b .permits c m sum k ≡ b .permits (withoutA c) m sum k
-  -- byte 0 is legal, and legal bytes have bits 5 and 6 zero
+  -- zero can always be stored, and nothing can be stored in the reserved bits
   pub zeroLegal : b .legal 0 ≡ true
   pub reservedZero : (c : ℕ) → LegalByte b c → c / 32 % 4 ≡ 0
-  -- mode M always gets yes, and unmatched U no
+  -- machine mode is never held up; user mode needs an entry
   pub machinePermitted : (c : ℕ) (sum : Bool) (k : Kind) → LegalByte b c → b .permits c Machine sum k ≡ true
   pub machineUnmatched : b .unmatched Machine ≡ true
   pub userUnmatched : b .unmatched User ≡ false
-  -- the byte for a rights set has bits 3 to 6 zero, is legal, and permits U exactly that set under either SUM
+  -- a rights set has a legal byte, its A and reserved fields clear, by which the user has those rights and no others, whatever SUM is
   pub byteLegal : (r : Rights) → LegalByte b (b .byteFor r)
   pub byteFieldsZero : (r : Rights) → b .byteFor r / 8 % 16 ≡ 0
   pub bytePermits : (r : Rights) (sum : Bool) (k : Kind) → b .permits (b .byteFor r) User sum k ≡ allows (permsOf r) k

@@ -1,4 +1,4 @@
--- The rule book of guest protection: S and U alike have R, W and X as set, and SUM is ignored. Assumes nothing.
+-- The rule book of guest protection: one set of rights for S and U, whatever SUM is. Assumes nothing.
 use mathlib.Core.Bool.{Bool, true, false, _&&_, _||_, not}
 use Prim.Native.Nat.{ℕ}
 use Rattle.access.specs.Rights.{Perms, perms, allows}
@@ -9,11 +9,11 @@ use Rattle.book.specs.Bits.{bit}
 use Rattle.book.specs.Books.{Book}
 use Rattle.book.specs.SpmpBook.{reservedClear, plainByte}
 
--- S = 1, and W without R, are not legal.
+-- No byte with bit S, and none that allows writing but not reading, is legal.
 abbrev pub guestLegal : ℕ → Bool
 guestLegal c = (reservedClear c && not (bit c 7)) && (bit c 0 || not (bit c 1))
 
--- R, W and X as set.
+-- The rights that the three low bits spell.
 abbrev pub asSet : ℕ → Perms
 asSet c = perms (bit c 0) (bit c 1) (bit c 2)
 

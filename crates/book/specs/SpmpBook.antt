@@ -1,4 +1,4 @@
--- The rule book of S-mode physical memory protection, by the bits S R W X of a configuration byte. Assumes nothing.
+-- The rule book of S-mode physical memory protection: a row for each value of S, R, W and X. Assumes nothing.
 use mathlib.Core.Bool.{Bool, true, false, _&&_, not, cond}
 use Prim.Native.Nat.{ℕ}
 use Rattle.access.specs.Rights.{Perms, perms, allows}
@@ -19,7 +19,7 @@ pub record Row : Type 0 where
 abbrev pub nothing : Perms
 nothing = perms false false false
 
--- A rule for user memory: the user has R, W and X as set; the supervisor has the same without X if SUM is set, else nothing.
+-- A rule for user memory: the bits are the user's rights. The supervisor shares them while SUM is set, but may never execute there.
 abbrev pub userRule : Bool → Bool → Bool → Row
 userRule r w x = record { allowed = true; supervisor = λ sum. cond sum (perms r w false) nothing; user = perms r w x }
 
@@ -72,7 +72,7 @@ spmpUnmatched Machine = true
 spmpUnmatched Supervisor = true
 spmpUnmatched User = false
 
--- The byte for a rights set: S is 0, and R, W and X are as in the set.
+-- A rights set spelled in the three low bits, with S clear.
 abbrev pub plainByte : Rights → ℕ
 plainByte R = 1
 plainByte RX = 5

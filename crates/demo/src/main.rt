@@ -105,7 +105,11 @@ fn save_and_restore(rt: &LibcRuntime, table: &SpmpTable) -> io::Result<()> {
     let mut other: SpmpTable = Table::new(FieldBits::rv32());
     tell(rt, "restore", other.restore(&words))?;
     read_back(rt, "config 0", other.read_config(0))?;
-    judge(rt, &other, Request::user(Kind::Store, 0x8000_1400, 4))
+    judge(rt, &other, Request::user(Kind::Store, 0x8000_1400, 4))?;
+    println!(rt, "-- a third takes over the registers of the second")?;
+    let mut third: SpmpTable = Table::new(FieldBits::rv32());
+    third.copy_registers(&other);
+    judge(rt, &third, Request::user(Kind::Store, 0x8000_1400, 4))
 }
 
 fn guests(rt: &LibcRuntime) -> io::Result<()> {

@@ -8,7 +8,11 @@ use table::refusal::RegisterRefusal;
 use table::table::Table;
 
 // The answer to a save or a restore.
-pub fn tell(rt: &LibcRuntime, call: &str, answer: Result<(), RegisterRefusal>) -> io::Result<()> {
+pub(crate) fn tell(
+    rt: &LibcRuntime,
+    call: &str,
+    answer: Result<(), RegisterRefusal>,
+) -> io::Result<()> {
     match answer {
         Ok(()) => println!(rt, "{call}: ok"),
         Err(refusal) => {
@@ -30,7 +34,7 @@ fn written(
     tell(rt, "", answer)
 }
 
-pub fn set_address<B: RuleBook>(
+pub(crate) fn set_address<B: RuleBook>(
     rt: &LibcRuntime,
     table: &mut Table<B, 32>,
     n: usize,
@@ -39,7 +43,7 @@ pub fn set_address<B: RuleBook>(
     written(rt, "address", n, value, table.write_address(n, value))
 }
 
-pub fn set_config<B: RuleBook>(
+pub(crate) fn set_config<B: RuleBook>(
     rt: &LibcRuntime,
     table: &mut Table<B, 32>,
     n: usize,
@@ -48,7 +52,7 @@ pub fn set_config<B: RuleBook>(
     written(rt, "config", n, value, table.write_config(n, value))
 }
 
-pub fn set_switch<B: RuleBook>(
+pub(crate) fn set_switch<B: RuleBook>(
     rt: &LibcRuntime,
     table: &mut Table<B, 32>,
     n: usize,
@@ -58,12 +62,12 @@ pub fn set_switch<B: RuleBook>(
 }
 
 // A word, by name.
-pub fn note(rt: &LibcRuntime, name: &str, word: u32) -> io::Result<()> {
+pub(crate) fn note(rt: &LibcRuntime, name: &str, word: u32) -> io::Result<()> {
     println!(rt, "{name}: {word:08x}")
 }
 
 // A read.
-pub fn read_back(
+pub(crate) fn read_back(
     rt: &LibcRuntime,
     register: &str,
     answer: Result<u32, RegisterRefusal>,
@@ -78,7 +82,11 @@ pub fn read_back(
 }
 
 // A check.
-pub fn judge<B: RuleBook>(rt: &LibcRuntime, table: &Table<B, 32>, r: Request) -> io::Result<()> {
+pub(crate) fn judge<B: RuleBook>(
+    rt: &LibcRuntime,
+    table: &Table<B, 32>,
+    r: Request,
+) -> io::Result<()> {
     match table.check(r.mode, r.sum, r.kind, r.address, r.width) {
         Ok(entry) => println!(rt, "{r}: pass, entry {entry}"),
         Err(refusal) => refuse(rt, r, refusal),

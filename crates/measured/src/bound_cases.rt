@@ -21,7 +21,7 @@ fn bound(
 }
 
 // Each way of matching, at its edges.
-pub fn bounds(rt: &LibcRuntime, tally: &mut Tally) -> io::Result<()> {
+pub(crate) fn bounds(rt: &LibcRuntime, tally: &mut Tally) -> io::Result<()> {
     let cases = [
         (Matching::Off, 0xffff_ffff, 0, "000000000 to 000000000"),
         (

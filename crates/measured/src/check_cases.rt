@@ -174,7 +174,7 @@ fn ranges(rt: &LibcRuntime, tally: &mut Tally, table: &SpmpTable) -> io::Result<
 }
 
 // The example table, judged and then written to.
-pub fn example_table(rt: &LibcRuntime, tally: &mut Tally) -> io::Result<()> {
+pub(crate) fn example_table(rt: &LibcRuntime, tally: &mut Tally) -> io::Result<()> {
     let Ok(mut table) = example() else {
         return tally.case(rt, "the example table", "refused", "made");
     };

@@ -10,8 +10,15 @@ use std::io;
 use tally::Tally;
 
 fn main(rt: LibcRuntime) -> io::Result<()> {
-    worked::worked_cases();
     let mut tally = Tally::new();
+    let (first, end) = worked::worked_cases();
+    let page = format!(rt.alloc(), "{first:09x} to {end:09x}")?;
+    tally.case(
+        &rt,
+        "the page of NAPOT 200001ff",
+        page.as_str(),
+        "080000000 to 080001000",
+    )?;
     bound_cases::bounds(&rt, &mut tally)?;
     row_cases::spmp_rows(&rt, &mut tally)?;
     row_cases::guest_bytes(&rt, &mut tally)?;

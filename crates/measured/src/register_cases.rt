@@ -24,7 +24,7 @@ fn read(
 }
 
 // Writes to the example table and what they leave: byte 0x80 is not legal, so the byte stays; bits 5 and 6 do not.
-pub fn registers(
+pub(crate) fn registers(
     rt: &LibcRuntime,
     tally: &mut Tally,
     table: &mut Table<SpmpBook, 32>,

@@ -42,7 +42,7 @@ fn three<B: RuleBook>(
 }
 
 // The sixteen rows of S R W X, with an A field that matters to none of them.
-pub fn spmp_rows(rt: &LibcRuntime, tally: &mut Tally) -> io::Result<()> {
+pub(crate) fn spmp_rows(rt: &LibcRuntime, tally: &mut Tally) -> io::Result<()> {
     let cases = [
         (0x08, "--- --- ---"),
         (0x0c, "--x --- ---"),
@@ -69,7 +69,7 @@ pub fn spmp_rows(rt: &LibcRuntime, tally: &mut Tally) -> io::Result<()> {
 }
 
 // Bytes of the guest book, legal and not.
-pub fn guest_bytes(rt: &LibcRuntime, tally: &mut Tally) -> io::Result<()> {
+pub(crate) fn guest_bytes(rt: &LibcRuntime, tally: &mut Tally) -> io::Result<()> {
     let cases = [
         (0x00, "--- --- ---"),
         (0x1f, "rwx rwx rwx"),

@@ -8,11 +8,20 @@ use native.Mathlib.Omega.{arith}
 use lib.Dec.{eqb, ltb, lit<}
 use lib.Pow.{pow-add}
 use Rattle.std.proofs.shelf.Tests.{cases-eq, cond-true, cond-false, cond-both, lt-ltb, le-ltb, eqb-true}
+use mathlib.Core.List.{List}
+use lib.ListN.{length}
+use Rattle.std.specs.declared.option.Option.{Option}
+use Rattle.std.specs.declared.option.Option.the-variants.{None, Some}
+use Rattle.std.specs.declared.result.Result.{Result}
+use Rattle.std.specs.declared.result.Result.the-variants.{Ok, Err}
+use Rattle.access.specs.Cases.{Report, Does}
 use Rattle.book.specs.Bits.{withoutReserved}
 use Rattle.book.specs.Books.{Book, Laws, LegalByte}
-use Rattle.table.specs.Registers.{Registers, AllLegal, zeros}
-use Rattle.table.specs.RegisterCalls.{keptByte, entryWritten, packed, bytesWritten}
-use Rattle.table.specs.Contexts.{wordsOf, restored, ComesBack}
+use Rattle.table.specs.Registers.{Registers, AllLegal, Same, zeros}
+use Rattle.table.specs.RegisterCalls.{registerReport, keptByte, entryWritten, packed, bytesWritten, switchWord}
+use Rattle.table.specs.Contexts.{shortBuffer, savedWord, SavedTo, wordsOf, restored, ComesBack}
+use Rattle.table.specs.declared.refusal.RegisterRefusal.{RegisterRefusal}
+use Rattle.table.proofs.SwitchWords.{joined-bits}
 
 kept-legal : (b : Book) (old new : ℕ) → new < 256 → LegalByte b old → LegalByte b (keptByte b old new)
 kept-legal b old new h l = cond-both (b .legal (withoutReserved new)) (withoutReserved new) old (LegalByte b) (λ e. (omega arith, e)) (λ _. l)
@@ -84,7 +93,7 @@ kept-same b l old c h =
 -- ---- saved registers
 
 pub comes-back : (b : Book) → Laws b → ComesBack b
-comes-back b l r s before buffer legal below fits saved = record {
+comes-back b l r s before buffer legal saved = record {
   configs = λ i h.
       let n = i / 4 in
       let word = wordsOf buffer in
@@ -99,5 +108,24 @@ comes-back b l r s before buffer legal below fits saved = record {
       cond-true (ltb i 64) _ _ (lt-ltb i 64 h) ∙ ap (keptByte b (s .config i)) e ∙ kept-same b l (s .config i) (r .config i) (legal i h);
   addresses = λ i h.
       cond-true (ltb i 64) _ _ (lt-ltb i 64 h) ∙ saved .words i (omega arith) ∙ cond-true (ltb i 64) _ _ (lt-ltb i 64 h);
-  switches = let a = saved .words 80 (lit< tt) in let b = saved .words 81 (lit< tt) in omega arith;
+  switches = joined-bits r (λ j. wordsOf buffer (80 + j)) (λ j h.
+      saved .words (80 + j) (omega arith) ∙ cond-false (ltb (80 + j) 64) _ _ (le-ltb (80 + j) 64 (omega arith))
+      ∙ cond-false (ltb (80 + j) 80) _ _ (le-ltb (80 + j) 80 (omega arith)) ∙ ap (switchWord r) {x = 80 + j - 80} {y = j} (omega arith));
 }
+
+-- ---- a save and a restore, one after the other
+
+none-some : (x : Report) → None ≡ Some x → ⊥
+none-some x e = let P : Option Report → Type 0 = λ o. elim o [ None ↦ Unit {0} | Some _ ↦ ⊥ ] in subst P e tt
+
+long : (buffer : List ℕ) → length buffer ≡ 82 → shortBuffer buffer ≡ None
+long buffer e = cond-false (ltb (length buffer) 82) _ _ (le-ltb (length buffer) 82 (omega arith))
+
+pub copied : (b : Book) → Laws b → (r s t : Registers) (before buffer : List ℕ) (x y : Result (Unit {0}) RegisterRefusal)
+    → length before ≡ 82 → length buffer ≡ 82
+    → Does registerReport (shortBuffer before) (λ _. SavedTo (savedWord r) 82 before buffer) (buffer ≡ before) x
+    → Does registerReport (shortBuffer buffer) (λ _. t ≡ restored b s (wordsOf buffer)) (t ≡ s) y
+    → AllLegal b r → Same t r
+copied b l r s t before buffer (Ok _) (Ok _) p q sv re legal = let P : Registers → Type 0 = λ z. Same z r in subst P (sym (re .1)) (comes-back b l r s before buffer legal (sv .1))
+copied b l r s t before buffer (Ok _) (Err e) p q sv re legal = absurd (none-some _ (sym (long buffer q) ∙ re .0))
+copied b l r s t before buffer (Err e) y p q sv re legal = absurd (none-some _ (sym (long before p) ∙ sv .0))

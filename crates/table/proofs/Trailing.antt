@@ -9,7 +9,7 @@ use lib.Dec.{eqb}
 use lib.Pow.{pow-pos, pow-mono}
 use lib.Count.{trailingZeros, under}
 use Rattle.std.proofs.shelf.Bits.{shr-shr, pow-add}
-use Rattle.table.specs.Bounds.{trailingOnes, napotFirst, resolved, Block}
+use Rattle.table.specs.Bounds.{trailingOnes, napotFirst, resolved, Block, FieldLaws}
 use Rattle.table.specs.declared.matching.Matching.the-variants.{Napot}
 
 odd-or-even : (a : ℕ) → (a % 2 ≡ 0) ⊎ (a % 2 ≡ 1)
@@ -115,7 +115,7 @@ ones-fit (suc f) (suc k) a h = go (ones-fit f k (a / 2) (let p = pow-suc 2 f in 
     go ih (inr e) = omega (arith, ones-odd k a e)
 
 -- the count does not depend on the bits above the number
-pub ones-any-width : (f k a : ℕ) → f ≤ k → a < 2 ^ f → trailingOnes k a ≡ trailingOnes f a
+ones-any-width : (f k a : ℕ) → f ≤ k → a < 2 ^ f → trailingOnes k a ≡ trailingOnes f a
 unfolding trailingOnes
 ones-any-width zero zero a l h = refl
 ones-any-width zero (suc k) a l h = let z : a ≡ 0 = omega arith in ones-even k a (omega arith)
@@ -137,7 +137,7 @@ all-ones (suc f) =
     ones-odd f (2 ^ suc f - 1) o ∙ ap (λ (n : ℕ). suc (trailingOnes f n)) h ∙ ap suc (all-ones f)
 
 -- a field of f ones is the block of 2 ^ (f + 3) bytes from 0
-pub all-ones-resolved : (f below : ℕ) → f ≤ 64 → resolved Napot (2 ^ f - 1) below ≡ (0, 2 ^ (f + 3))
+all-ones-resolved : (f below : ℕ) → f ≤ 64 → resolved Napot (2 ^ f - 1) below ≡ (0, 2 ^ (f + 3))
 unfolding resolved
 all-ones-resolved f below l =
     let a = 2 ^ f - 1 in
@@ -149,3 +149,6 @@ all-ones-resolved f below l =
     let e : 2 ^ (trailingOnes 64 a + 3) ≡ 2 ^ (f + 3) = ap (λ (k : ℕ). 2 ^ (k + 3)) n in
     let end : napotFirst (trailingOnes 64 a) a + 2 ^ (trailingOnes 64 a + 3) ≡ 2 ^ (f + 3) = omega (arith, first, e) in
     λ i. (first i, end i)
+
+pub field-laws : (f : ℕ) → f ≤ 64 → FieldLaws f
+field-laws f l = record { sameOnes = λ a h. ones-any-width f 64 a l h; allOnes = λ below. all-ones-resolved f below l }

@@ -1,7 +1,7 @@
--- The bounds of an entry: its first byte and its end, the address after its last byte. Assumes nothing.
+-- What an entry covers: from its first byte up to its end, which it does not cover. Assumes nothing.
 use mathlib.Core.Path.{_≡_}
 use mathlib.Core.Bool.{cond}
-use Prim.Native.Nat.{ℕ, zero, suc, _+_, _*_, _/_, _^_}
+use Prim.Native.Nat.{ℕ, zero, suc, _+_, _-_, _*_, _/_, _^_, _<_}
 use Rattle.book.specs.Bits.{bit, aField}
 use Rattle.table.specs.declared.matching.Matching.{Matching}
 use Rattle.table.specs.declared.matching.Matching.the-variants.{Off, Tor, Na4, Napot}
@@ -16,12 +16,12 @@ matchingAt (suc (suc (suc n))) = Napot
 abbrev pub matchingOf : ℕ → Matching
 matchingOf c = matchingAt (aField c)
 
--- The count of trailing one bits among the lowest k bits of a number.
+-- How many of the lowest k bits of a number are ones before the first zero.
 unfoldable pub trailingOnes : ℕ → ℕ → ℕ
 trailingOnes zero a = 0
 trailingOnes (suc k) a = cond (bit a 0) (suc (trailingOnes k (a / 2))) 0
 
--- Where a block with n trailing ones begins: four times the register with its lowest n + 1 bits cleared.
+-- Where a block begins whose register ends in n ones: those ones and the zero above them do not count.
 abbrev pub napotFirst : ℕ → ℕ → ℕ
 napotFirst n a = 4 * (a / 2 ^ (n + 1) * 2 ^ (n + 1))
 
@@ -46,3 +46,9 @@ NapotBlock Off a r = Unit {0}
 NapotBlock Tor a r = Unit {0}
 NapotBlock Na4 a r = Unit {0}
 NapotBlock Napot a r = Block a (r .0) (r .1)
+
+-- The bits above a field of f bits do not matter: its ones are counted within the f bits, and a field of f ones is the block of
+-- 2 ^ (f + 3) bytes from 0.
+pub record FieldLaws (f : ℕ) : Type 0 where
+  pub sameOnes : (a : ℕ) → a < 2 ^ f → trailingOnes 64 a ≡ trailingOnes f a
+  pub allOnes : (below : ℕ) → resolved Napot (2 ^ f - 1) below ≡ (0, 2 ^ (f + 3))

@@ -27,7 +27,7 @@ AnyByte b a w = (x : ℕ) × ((a ≤ x) × (x < a + w)) × ((b .0 ≤ x) × (x <
 abbrev pub EveryByte : ℕ × ℕ → ℕ → ℕ → Type 0
 EveryByte b a w = (x : ℕ) → a ≤ x → x < a + w → (b .0 ≤ x) × (x < b .1)
 
--- An entry is active if its switch bit is set and its A field is not 0.
+-- An active entry is switched on and not OFF.
 abbrev pub active : Registers → ℕ → Bool
 active r i = bit (r .switch) i && not (eqb (aField (r .config i)) 0)
 
@@ -39,7 +39,8 @@ Holds r i a w = (active r i ≡ true) × AnyByte (boundsAt r i) a w
 abbrev pub Deciding : Registers → ℕ → ℕ → ℕ → Type 0
 Deciding r a w e = (e ≤ 64) × ((i : ℕ) → i < e → Holds r i a w → ⊥) × (e < 64 → Holds r e a w)
 
--- What the deciding entry permits: it must hold every byte, and then the book decides on its byte; with none, the book's unmatched answer.
+-- What the deciding entry permits: nothing unless it holds all of the access, and then what the book reads in its configuration. Where no
+-- entry decides, the book has an answer of its own.
 abbrev pub Permitted : Book → Registers → ℕ → Mode → Bool → Kind → ℕ → ℕ → Type 0
 Permitted b r e m sum k a w = When (ltb e 64) (EveryByte (boundsAt r e) a w × (b .permits (r .config e) m sum k ≡ true)) (b .unmatched m ≡ true)
 

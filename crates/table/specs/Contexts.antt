@@ -8,7 +8,7 @@ use Prim.Native.Nat.{ℕ, _+_, _-_, _*_, _/_, _%_, _^_, _<_, _≤_}
 use Rattle.std.specs.declared.option.Option.{Option}
 use Rattle.access.specs.Cases.{Report, refused, firstOf}
 use Rattle.book.specs.Books.{Book}
-use Rattle.table.specs.Registers.{Registers, AllLegal, AddressesBelow, Same, withSwitch}
+use Rattle.table.specs.Registers.{Registers, AllLegal, Same, withSwitch}
 use Rattle.table.specs.RegisterCalls.{packed, keptByte, switchWord, joined}
 
 -- 32 for a buffer of fewer than 82 words.
@@ -43,5 +43,4 @@ restored b r word = withSwitch (restoredTo b r word 64 16) (joined (λ j. word (
 abbrev pub ComesBack : Book → Type 0
 ComesBack b =
     (r s : Registers) (before buffer : List ℕ)
-    → AllLegal b r → AddressesBelow 32 r → r .switch < 2 ^ 64
-    → SavedTo (savedWord r) 82 before buffer → Same (restored b s (wordsOf buffer)) r
+    → AllLegal b r → SavedTo (savedWord r) 82 before buffer → Same (restored b s (wordsOf buffer)) r

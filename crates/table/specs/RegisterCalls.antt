@@ -21,7 +21,7 @@ registerReport ShortBuffer = refused 32 []
 abbrev pub noRegister : ℕ → ℕ → Option Report
 noRegister count n = firstOf ((not (ltb n count), refused 31 []) ∷ [])
 
--- Writing a configuration byte clears bits 5 and 6; a legal outcome is kept, and otherwise the old byte remains.
+-- What a configuration byte is after a write: the new one without its reserved bits, if the book holds that for legal; else as it was.
 abbrev pub keptByte : Book → ℕ → ℕ → ℕ
 keptByte b old new = cond (b .legal (withoutReserved new)) (withoutReserved new) old
 
@@ -54,6 +54,6 @@ joined word = word 0 + word 1 * 2 ^ 32
 abbrev pub switchWritten : Registers → ℕ → ℕ → Registers
 switchWritten r n w = withSwitch r (joined (put (switchWord r) n w))
 
--- Bit i mod 32 of word i div 32 is the switch bit of entry i.
+-- The switch bit of an entry, found in the two words: 32 entries to a word, the lowest bit first.
 abbrev pub SwitchBits : Registers → Type 0
 SwitchBits r = (i : ℕ) → i < 64 → bit (switchWord r (i / 32)) (i % 32) ≡ bit (r .switch) i

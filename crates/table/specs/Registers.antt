@@ -3,6 +3,7 @@ use mathlib.Core.Path.{_≡_}
 use mathlib.Core.Bool.{cond}
 use Prim.Native.Nat.{ℕ, zero, suc, _^_, _<_}
 use lib.Dec.{eqb}
+use Rattle.book.specs.Bits.{bit}
 use Rattle.book.specs.Books.{Book, LegalByte}
 use Rattle.table.specs.Bounds.{matchingOf, resolved}
 
@@ -36,7 +37,7 @@ AllLegal b r = (i : ℕ) → i < 64 → LegalByte b (r .config i)
 pub record Same (r s : Registers) : Type 0 where
   pub configs : (i : ℕ) → i < 64 → r .config i ≡ s .config i
   pub addresses : (i : ℕ) → i < 64 → r .address i ≡ s .address i
-  pub switches : r .switch ≡ s .switch
+  pub switches : (i : ℕ) → i < 64 → bit (r .switch) i ≡ bit (s .switch) i
 
 -- A function with another value at one place.
 abbrev pub put : (ℕ → ℕ) → ℕ → ℕ → ℕ → ℕ

@@ -1,7 +1,7 @@
-// The bounds of an entry: its first byte, and its end, the address after its last byte.
+// What an entry covers: from its first byte up to its end, which it does not cover.
 ghost use mathlib.Core.Path.{_≡_};
 ghost use Prim.Native.Nat.{_+_, _%_, _^_, _<_, _≤_};
-ghost use Rattle.table.specs.Bounds.{matchingOf, resolved, trailingOnes, napotFirst, NapotBlock};
+ghost use Rattle.table.specs.Bounds.{matchingOf, resolved, trailingOnes, napotFirst, NapotBlock, FieldLaws};
 use super::matching::Matching;
 use access::field_bits::FieldBits;
 
@@ -17,7 +17,7 @@ pub fn matching_of(byte: u8) -> Matching
     }
 }
 
-// The count of trailing one bits.
+// How many ones the register ends in.
 fn ones_below(address: u64) -> u32
     requires { ⌜ address < 2 ^ 60 ⌝ }
     ensures { λ r. ⌜ r ≡ trailingOnes 64 address ⌝ ∗ ⌜ r ≤ 60 ⌝ }
@@ -61,6 +61,7 @@ pub fn resolve<const F: u32>(
 ) -> (u64, u64)
     ensures value { λ r. ⌜ r ≡ resolved matching (address % 2 ^ F) (below % 2 ^ F) ⌝ }
     ensures block { λ r. ⌜ NapotBlock matching (address % 2 ^ F) r ⌝ }
+    ensures fields { λ _. ⌜ FieldLaws F ⌝ }
 {
     bounds_of(matching, bits.field(address), bits.field(below))
 }

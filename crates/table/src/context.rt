@@ -3,7 +3,7 @@ ghost use mathlib.Core.Path.{_≡_};
 ghost use Prim.Native.Nat.{ℕ, _<_, _≤_};
 ghost use lib.ListN.{length};
 ghost use Rattle.access.specs.Cases.{Gives, Does};
-ghost use Rattle.table.specs.Registers.{Registers, AllLegal};
+ghost use Rattle.table.specs.Registers.{Registers, AllLegal, Same};
 ghost use Rattle.table.specs.Tables.{regs};
 ghost use Rattle.table.specs.RegisterCalls.{registerReport};
 ghost use Rattle.table.specs.Contexts.{shortBuffer, savedWord, SavedTo, wordsOf, restoredTo, restored, ComesBack};
@@ -29,7 +29,7 @@ impl<B: RuleBook> Table<B, 32> {
         }
     }
 
-    // Saves the registers into the first 82 words of a buffer.
+    // Saves the registers into a buffer, whose first 82 words they fill.
     pub fn save(&self, buffer: &mut [u32]) -> Result<(), RegisterRefusal>
         ensures { λ r. ⌜ Does registerReport (shortBuffer (now (buffer .entry))) (λ _. SavedTo (savedWord (regs (now (self .entry)))) 82 (now (buffer .entry)) (now (buffer .exit))) (now (buffer .exit) ≡ now (buffer .entry)) r ⌝ }
     {
@@ -62,7 +62,7 @@ impl<B: RuleBook> Table<B, 32> {
         }
     }
 
-    // Restores the registers from the first 82 words of a buffer.
+    // Restores the registers that a buffer begins with.
     pub fn restore(&mut self, buffer: &[u32]) -> Result<(), RegisterRefusal>
         ensures written { λ r. ⌜ Does registerReport (shortBuffer (now (buffer .entry))) (λ _. regs (now (self .exit)) ≡ restored meaning (regs (now (self .entry))) (wordsOf (now (buffer .entry)))) (regs (now (self .exit)) ≡ regs (now (self .entry))) r ⌝ }
         ensures legal { λ _. ⌜ (AllLegal meaning (regs (now (self .entry))) → AllLegal meaning (regs (now (self .exit)))) ⌝ }
@@ -75,5 +75,14 @@ impl<B: RuleBook> Table<B, 32> {
         self.restore_configs(buffer);
         self.set_switches(buffer[80], buffer[81]);
         Ok(())
+    }
+
+    // Takes over the registers of another table of the book.
+    pub fn copy_registers(&mut self, from: &Self)
+        ensures { λ _. ⌜ (AllLegal meaning (regs (now (from .entry))) → Same (regs (now (self .exit))) (regs (now (from .entry)))) ⌝ }
+    {
+        let mut buffer = [0u32; SAVED_WORDS];
+        let _ = from.save(&mut buffer);
+        let _ = self.restore(&buffer);
     }
 }

@@ -9,7 +9,7 @@ use super::entries::Entry;
 use super::entries::PlainTable;
 use access::field_bits::FieldBits;
 
-// Resolves an entry anew, where `below` is the address register of the entry below.
+// Resolves an entry anew over the address register below it.
 fn refresh<const F: u32>(bits: FieldBits<F>, e: &mut Entry, below: u64)
     requires address { ⌜ now e .address < 2 ^ F ⌝ }
     requires below { ⌜ below < 2 ^ F ⌝ }

@@ -1,4 +1,4 @@
--- The table holds the packed rows: antt computes the row of each of the 256 bytes, and compares the whole table with these numbers.
+-- The table holds the packed rows: antt computes the number that the rows give every byte, and compares the whole table with these.
 use mathlib.Core.List.{List, map}
 use mathlib.Core.Path.{_≡_}
 use native.Mathlib.Omega.{arith}

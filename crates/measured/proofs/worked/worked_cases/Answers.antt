@@ -6,14 +6,17 @@ use Rattle.measured.proofs.worked.worked_cases.Needs as need
 pub returns : need.returns
 unfolding resolved trailingOnes
 returns c = record {
-  page = refl;
-  half = refl;
-  all = refl;
-  byteStays = refl;
-  userStore = refl;
-  userLoad = refl;
-  supervisorStore = refl;
-  lastLoad = (refl, lit≤ tt);
-  lastAccepted = refl;
-  pastTheEnd = refl;
+  cases = record {
+    page = refl;
+    half = refl;
+    all = refl;
+    byteStays = refl;
+    userStore = refl;
+    userLoad = refl;
+    supervisorStore = refl;
+    lastLoad = (refl, lit≤ tt);
+    lastAccepted = refl;
+    pastTheEnd = refl;
+  };
+  page = c .resolve .ensures .value;
 }
