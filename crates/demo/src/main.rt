@@ -1,4 +1,5 @@
-// A register table at work, from the first register write to the last verdict.
+// A register table and memories at work, from the first register write to the last stored byte.
+mod memories;
 mod request;
 mod show;
 
@@ -8,6 +9,7 @@ use book::guest_book::GuestBook;
 use book::guest_book::GuestRules;
 use book::spmp_book::SpmpBook;
 use book::spmp_book::SpmpRules;
+use memories::memories;
 use request::Request;
 use show::judge;
 use show::note;
@@ -140,5 +142,6 @@ fn main(rt: LibcRuntime) -> io::Result<()> {
     move_below(&rt, &mut table)?;
     keep_legal(&rt, &mut table)?;
     save_and_restore(&rt, &table)?;
-    guests(&rt)
+    guests(&rt)?;
+    memories(&rt)
 }

@@ -1,0 +1,11 @@
+pub mod Meaning
+pub mod Refusals
+pub mod Effects
+pub mod Bytes
+pub mod Ram
+pub mod Bank
+pub mod Pair
+pub mod Side
+pub mod Transfers
+pub mod Buffer
+pub mod Lawful
