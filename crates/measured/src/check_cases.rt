@@ -99,8 +99,8 @@ fn verdict(
     tally.case(rt, name.as_str(), got.as_str(), want)
 }
 
-// At the edges of the entries, in modes U and S.
-fn verdicts(rt: &LibcRuntime, tally: &mut Tally, table: &SpmpTable) -> io::Result<()> {
+// At the edges of the entries, in mode U.
+fn user_verdicts(rt: &LibcRuntime, tally: &mut Tally, table: &SpmpTable) -> io::Result<()> {
     let cases = [
         (
             user(Kind::Load, 0x8000_0ffe, 4),
@@ -129,6 +129,16 @@ fn verdicts(rt: &LibcRuntime, tally: &mut Tally, table: &SpmpTable) -> io::Resul
             user(Kind::Load, 0x1000_0000, 4),
             "51 cause 13 address 010000000 entry 64",
         ),
+    ];
+    for (access, want) in cases {
+        verdict(rt, tally, table, access, want)?;
+    }
+    Ok(())
+}
+
+// On the entries of a task and outside, in mode S.
+fn supervisor_verdicts(rt: &LibcRuntime, tally: &mut Tally, table: &SpmpTable) -> io::Result<()> {
+    let cases = [
         (supervisor(false, Kind::Load, 0x1000_0000, 4), "pass 64"),
         (
             supervisor(false, Kind::Load, 0x8000_1000, 4),
@@ -178,7 +188,8 @@ pub(crate) fn example_table(rt: &LibcRuntime, tally: &mut Tally) -> io::Result<(
     let Ok(mut table) = example() else {
         return tally.case(rt, "the example table", "refused", "made");
     };
-    verdicts(rt, tally, &table)?;
+    user_verdicts(rt, tally, &table)?;
+    supervisor_verdicts(rt, tally, &table)?;
     ranges(rt, tally, &table)?;
     registers(rt, tally, &mut table)
 }
