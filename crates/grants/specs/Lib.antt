@@ -1,0 +1,12 @@
+pub mod Regions
+pub mod Refusals
+pub mod Owners
+pub mod Images
+pub mod Residence
+pub mod Resolving
+pub mod Standing
+pub mod Plans
+pub mod ResidentMeaning
+pub mod Passing
+pub mod Shown
+pub mod Worked

@@ -1,0 +1,3 @@
+// Numbers in a fixed count of digits.
+mod digits;
+pub mod fixed;
