@@ -61,8 +61,9 @@ fn refuses_with_places(rt: LibcRuntime) -> Result<(), Fail> {
     check_eq(refusal(heap, &[]), Some(LayoutRefusal::Short))?;
     let many = LayoutRefusal::TooMany { place: 0 };
     check_eq(spoiled(heap, 0, 17), Some(many))?;
+    let whole = *EXAMPLE;
     let shape = LayoutRefusal::Shape { place: 80 };
-    check_eq(refusal(heap, &EXAMPLE[0..79]), Some(shape))?;
+    check_eq(refusal(heap, &whole[0..79]), Some(shape))?;
     let partition = LayoutRefusal::Partition { place: 24 };
     check_eq(spoiled(heap, 24, 3), Some(partition))?;
     let reserved = LayoutRefusal::Reserved { place: 44 };

@@ -9,6 +9,7 @@ use Rattle.access.specs.Formed.{WellFormed, illFormed}
 use Rattle.access.specs.declared.access.Kind.the-variants.{Load, Store}
 use Rattle.access.specs.declared.access.Mode.the-variants.{Supervisor, User}
 use Rattle.book.specs.SpmpBook.{spmpBook}
+use Rattle.grants.specs.Worked.{WorkedGrants, WorkedLayout}
 use Rattle.table.specs.Bounds.{resolved}
 use Rattle.table.specs.RegisterCalls.{keptByte}
 use Rattle.table.specs.declared.matching.Matching.the-variants.{Napot}
@@ -28,3 +29,6 @@ pub record WorkedCases : Type 0 where
   pub lastLoad : WellFormed 32 Load (2 ^ 34 - 8) 8
   pub lastAccepted : illFormed 32 Load (2 ^ 34 - 8) 8 ≡ None
   pub pastTheEnd : illFormed 32 Load (2 ^ 34 - 7) 8 ≡ Some (refused 42 [])
+  -- regions at the end of the addresses, and the entries of the example layout
+  pub grants : WorkedGrants
+  pub layout : WorkedLayout

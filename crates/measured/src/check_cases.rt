@@ -29,7 +29,7 @@ fn example() -> Result<SpmpTable, RegisterRefusal> {
     Ok(table)
 }
 
-fn text(heap: Global, answer: Result<u8, Refusal>) -> Result<String, AllocError> {
+pub(crate) fn text(heap: Global, answer: Result<u8, Refusal>) -> Result<String, AllocError> {
     match answer {
         Ok(entry) => format!(heap, "pass {entry}"),
         Err(refusal) => {

@@ -1,6 +1,7 @@
 // Worked cases: some proved on the definitions, the rest run on the unit and compared with what they should be.
 mod bound_cases;
 mod check_cases;
+mod grant_cases;
 mod register_cases;
 mod row_cases;
 mod tally;
@@ -23,5 +24,6 @@ fn main(rt: LibcRuntime) -> io::Result<()> {
     row_cases::spmp_rows(&rt, &mut tally)?;
     row_cases::guest_bytes(&rt, &mut tally)?;
     check_cases::example_table(&rt, &mut tally)?;
+    grant_cases::grants(&rt, &mut tally)?;
     tally.close(&rt)
 }

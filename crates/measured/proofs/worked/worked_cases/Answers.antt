@@ -1,6 +1,7 @@
 use mathlib.Core.Path.{refl}
 use lib.Dec.{lit≤}
 use Rattle.table.specs.Bounds.{resolved, trailingOnes}
+use Rattle.grants.proofs.Worked.{worked-grants, worked-layout}
 use Rattle.measured.proofs.worked.worked_cases.Needs as need
 
 pub returns : need.returns
@@ -17,6 +18,8 @@ returns c = record {
     lastLoad = (refl, lit≤ tt);
     lastAccepted = refl;
     pastTheEnd = refl;
+    grants = worked-grants;
+    layout = worked-layout;
   };
   page = c .resolve .ensures .value;
 }
