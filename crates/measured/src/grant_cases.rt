@@ -65,14 +65,20 @@ fn refusals(rt: &LibcRuntime, tally: &mut Tally) -> io::Result<()> {
     Ok(())
 }
 
-// Eight regions are all that a task can hold, and 64 entries all that there are.
-fn limits(rt: &LibcRuntime, tally: &mut Tally) -> io::Result<()> {
+// Four tasks with eight regions of two entries each: every entry is taken.
+fn full() -> SpmpPlan {
     let mut plan: SpmpPlan = ResidentPlan::new(FieldBits::rv32());
     for task in 0..4 {
         for k in 0..8 {
             let _ = plan.grant(task, 0x100 * k, 12, 1);
         }
     }
+    plan
+}
+
+// Eight regions are all that a task can hold, and 64 entries all that there are.
+fn limits(rt: &LibcRuntime, tally: &mut Tally) -> io::Result<()> {
+    let mut plan = full();
     outcome(
         rt,
         tally,
@@ -80,25 +86,13 @@ fn limits(rt: &LibcRuntime, tally: &mut Tally) -> io::Result<()> {
         plan.grant(0, 0x10000, 4, 1),
         "26",
     )?;
-    outcome(
-        rt,
-        tally,
-        "a region where all entries are taken",
-        plan.grant(4, 0, 4, 1),
-        "27",
-    )?;
+    outcome(rt, tally, "no entry left", plan.grant(4, 0, 4, 1), "27")?;
     outcome(rt, tally, "a withdrawal", plan.withdraw(0, 0x100), "done")?;
+    outcome(rt, tally, "the same again", plan.withdraw(0, 0x100), "28")?;
     outcome(
         rt,
         tally,
-        "the same once more",
-        plan.withdraw(0, 0x100),
-        "28",
-    )?;
-    outcome(
-        rt,
-        tally,
-        "a pair where two neighbours are free",
+        "two entries left",
         plan.grant(4, 0, 12, 1),
         "done",
     )?;
@@ -112,11 +106,11 @@ fn limits(rt: &LibcRuntime, tally: &mut Tally) -> io::Result<()> {
     outcome(
         rt,
         tally,
-        "a withdrawal from task 16",
+        "a withdrawal from 16",
         plan.withdraw(16, 0),
         "21",
     )?;
-    outcome(rt, tally, "a selection of task 16", plan.select(16), "21")
+    outcome(rt, tally, "a selection of 16", plan.select(16), "21")
 }
 
 fn load(
@@ -134,67 +128,36 @@ fn load(
     tally.case(rt, name, got.as_str(), want)
 }
 
-// The example layout, granted and selected.
-fn example(rt: &LibcRuntime, tally: &mut Tally) -> io::Result<()> {
+// The example layout, granted.
+fn example() -> SpmpPlan {
     let mut plan: SpmpPlan = ResidentPlan::new(FieldBits::rv32());
     let _ = plan.grant(0, 0x8000_0000, 0x1000, 5);
     let _ = plan.grant(0, 0x8000_1000, 0x1800, 3);
     let _ = plan.grant(1, 0x1000_0000, 4, 1);
-    load(
-        rt,
-        tally,
-        &plan,
-        "before a selection",
-        0x8000_0000,
-        "51 cause 13 address 080000000 entry 64",
-    )?;
+    plan
+}
+
+// What tasks may load before and after selections, and after a withdrawal.
+fn selections(rt: &LibcRuntime, tally: &mut Tally) -> io::Result<()> {
+    let page = 0x8000_0000;
+    let across = 0x8000_0ffe;
+    let word = 0x1000_0000;
+    let nothing = "51 cause 13 address 010000000 entry 64";
+    let mut plan = example();
+    load(rt, tally, &plan, "nothing selected", word, nothing)?;
     let _ = plan.select(0);
-    load(
-        rt,
-        tally,
-        &plan,
-        "task 0 in its pages",
-        0x8000_0000,
-        "pass 0",
-    )?;
-    load(
-        rt,
-        tally,
-        &plan,
-        "task 0 across its regions",
-        0x8000_0ffe,
-        "51 cause 13 address 080000ffe entry 0",
-    )?;
-    load(
-        rt,
-        tally,
-        &plan,
-        "task 0 at task 1's word",
-        0x1000_0000,
-        "51 cause 13 address 010000000 entry 64",
-    )?;
+    load(rt, tally, &plan, "task 0 in its page", page, "pass 0")?;
+    let partly = "51 cause 13 address 080000ffe entry 0";
+    load(rt, tally, &plan, "task 0 across regions", across, partly)?;
+    load(rt, tally, &plan, "task 0 at another's", word, nothing)?;
     let _ = plan.select(1);
-    load(
-        rt,
-        tally,
-        &plan,
-        "task 1 at its word",
-        0x1000_0000,
-        "pass 3",
-    )?;
-    let _ = plan.withdraw(1, 0x1000_0000);
-    load(
-        rt,
-        tally,
-        &plan,
-        "task 1 once that is withdrawn",
-        0x1000_0000,
-        "51 cause 13 address 010000000 entry 64",
-    )
+    load(rt, tally, &plan, "task 1 at its word", word, "pass 3")?;
+    let _ = plan.withdraw(1, word);
+    load(rt, tally, &plan, "task 1 after withdrawal", word, nothing)
 }
 
 pub(crate) fn grants(rt: &LibcRuntime, tally: &mut Tally) -> io::Result<()> {
     refusals(rt, tally)?;
     limits(rt, tally)?;
-    example(rt, tally)
+    selections(rt, tally)
 }
