@@ -15,4 +15,5 @@ pub mod Same
 pub mod Agreeing
 pub mod ResidentLaws
 pub mod Passing
+pub mod Untouched
 pub mod Worked

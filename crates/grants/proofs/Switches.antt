@@ -37,13 +37,21 @@ bit-more f k w h e t =
     let m : (1 * 2 ^ k) % 2 ^ 64 ≡ 1 * 2 ^ k = one-shl k 64 h ∙ sym o in
     ap (bitOr w) m ∙ s ∙ omega arith ∙ sym q ∙ ap (bitsBelow f) (sym (add-one k))
 
-pub bits-none : (f : ℕ → Bool) (n : ℕ) → ((k : ℕ) → k < n → f k ≡ false) → bitsBelow f n ≡ 0
+pub bits-alike : (p q : ℕ → Bool) (n : ℕ) → ((k : ℕ) → k < n → p k ≡ q k) → bitsBelow p n ≡ bitsBelow q n
 unfolding bitsBelow
-bits-none f zero h = refl
-bits-none f (suc n) h =
-    let e = bits-none f n (λ k q. h k (omega arith)) in
-    let q = cond-false (f n) (2 ^ n) 0 (h n (omega arith)) in
-    omega arith
+bits-alike p q zero h = refl
+bits-alike p q (suc n) h =
+    let i = bits-alike p q n (λ k l. h k (omega arith)) in
+    let e = h n (omega arith) in
+    λ j. i j + cond (e j) (2 ^ n) 0
+
+no-bits : (n : ℕ) → bitsBelow (λ _. false) n ≡ 0
+unfolding bitsBelow
+no-bits zero = refl
+no-bits (suc n) = let e = no-bits n in omega arith
+
+pub bits-none : (f : ℕ → Bool) (n : ℕ) → ((k : ℕ) → k < n → f k ≡ false) → bitsBelow f n ≡ 0
+bits-none f n h = bits-alike f (λ _. false) n h ∙ no-bits n
 
 -- ---- the bits of that number
 

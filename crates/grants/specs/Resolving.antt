@@ -15,7 +15,8 @@ use Rattle.table.specs.Registers.{Registers, boundsAt}
 use Rattle.table.specs.Checks.{active}
 use Rattle.grants.specs.Regions.{formOf, overlapping}
 use Rattle.grants.specs.Owners.{ownerAt, held}
-use Rattle.grants.specs.Residence.{Placeable, Resident}
+use Rattle.grants.specs.Images.{switchBits}
+use Rattle.grants.specs.Residence.{Placeable, Resident, afterGrant, afterWithdraw}
 use Rattle.grants.specs.declared.region.Region.{Region}
 use Rattle.grants.specs.declared.region.Form.the-variants.{Pair}
 use Rattle.grants.specs.declared.owner.Owner.{Owner}
@@ -58,3 +59,12 @@ pub record Placed (f : ℕ) (os : List Owner) : Type 0 where
 pub record Standing (f : ℕ) (b : Book) (r : Registers) (os : List Owner) (s : Option ℕ) : Type 0 where
   pub resident : Resident b r os s
   pub placed : Placed f os
+
+-- The switch bits of a task are the same after a call for another task t.
+pub record Untouched (f : ℕ) (os : List Owner) (u t : ℕ) : Type 0 where
+  pub grants : (b l r : ℕ) → switchBits (afterGrant f os t b l r) (Some u) ≡ switchBits os (Some u)
+  pub withdrawals : (b : ℕ) → switchBits (afterWithdraw os t b) (Some u) ≡ switchBits os (Some u)
+
+-- That is so of owners that make sense.
+abbrev pub OthersUntouched : ℕ → Type 0
+OthersUntouched f = (os : List Owner) (u t : ℕ) → Placed f os → (t ≡ u → ⊥) → Untouched f os u t

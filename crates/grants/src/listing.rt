@@ -6,6 +6,7 @@ ghost use Rattle.book.specs.Bits.{bit};
 ghost use Rattle.table.specs.Tables.{regs};
 ghost use Rattle.grants.specs.Owners.{ownerAt};
 ghost use Rattle.grants.specs.Images.{byteOf, switchBits, switchedOn};
+ghost use Rattle.grants.specs.Resolving.{OthersUntouched};
 ghost use Rattle.grants.specs.Shown.{RegionsShown};
 ghost use Rattle.grants.specs.Standing.{PlanStands};
 use super::owner::Owner;
@@ -43,6 +44,7 @@ impl<B: RuleBook, const F: u32> ResidentPlan<B, F> {
     pub fn switches_of(&self, task: u64) -> u64
         ensures value { λ r. ⌜ r ≡ switchBits (now (self .entry) .owners .cells) (Some task) ⌝ }
         ensures bits { λ r. ⌜ ((i : ℕ) → i < 64 → bit r i ≡ switchedOn (Some task) (ownerAt (now (self .entry) .owners .cells) i)) ⌝ }
+        ensures others { λ _. ⌜ OthersUntouched F ⌝ }
     {
         self.owners.switches(Some(task))
     }
