@@ -1,0 +1,5 @@
+pub mod Playing
+pub mod Parts
+pub mod Steps
+pub mod Listed
+pub mod Long

@@ -1,0 +1,4 @@
+pub mod Grants
+pub mod Played
+pub mod Lines
+pub mod Reports
