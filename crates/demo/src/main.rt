@@ -1,7 +1,8 @@
-// A register table and memories at work, from the first register write to the last stored byte.
+// A register table, tasks and memories at work, from the first register write to the last stored byte.
 mod memories;
 mod request;
 mod show;
+mod tasks;
 
 use access::access::Kind;
 use access::field_bits::FieldBits;
@@ -20,6 +21,7 @@ use show::set_switch;
 use show::tell;
 use std::io;
 use table::table::Table;
+use tasks::tasks;
 
 type SpmpTable = Table<SpmpBook, 32>;
 
@@ -143,5 +145,6 @@ fn main(rt: LibcRuntime) -> io::Result<()> {
     keep_legal(&rt, &mut table)?;
     save_and_restore(&rt, &table)?;
     guests(&rt)?;
+    tasks(&rt)?;
     memories(&rt)
 }

@@ -87,7 +87,15 @@ pub(crate) fn judge<B: RuleBook>(
     table: &Table<B, 32>,
     r: Request,
 ) -> io::Result<()> {
-    match table.check(r.mode, r.sum, r.kind, r.address, r.width) {
+    verdict(
+        rt,
+        r,
+        table.check(r.mode, r.sum, r.kind, r.address, r.width),
+    )
+}
+
+pub(crate) fn verdict(rt: &LibcRuntime, r: Request, answer: Result<u8, Refusal>) -> io::Result<()> {
+    match answer {
         Ok(entry) => println!(rt, "{r}: pass, entry {entry}"),
         Err(refusal) => refuse(rt, r, refusal),
     }
