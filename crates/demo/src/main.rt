@@ -1,4 +1,6 @@
 // A register table, memories, a hart with its tasks, and runs at work, from the first register write to the last answer.
+#![tactic(auto)]
+
 mod calls;
 mod memories;
 mod request;

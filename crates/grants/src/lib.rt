@@ -1,4 +1,6 @@
 // Regions that tasks hold, and the entries that show them.
+#![tactic(auto)]
+
 pub mod admission;
 pub mod call;
 mod calls;

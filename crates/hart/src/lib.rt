@@ -1,4 +1,6 @@
 // Harts: tasks are entered and left, and accesses go through the table to a memory.
+#![tactic(auto)]
+
 pub mod harts;
 pub mod layouts;
 pub mod status;

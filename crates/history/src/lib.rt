@@ -1,3 +1,5 @@
 // The calls of a run and their answers, what a history of them shows, and the theorem about runs.
+#![tactic(auto)]
+
 pub mod call;
 mod reports;

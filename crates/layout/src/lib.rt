@@ -1,4 +1,6 @@
 // Layout files: the tasks and regions that they hold, and the lines that a program prints of them.
+#![tactic(auto)]
+
 pub mod decode;
 mod header;
 pub mod layout;

@@ -1,4 +1,6 @@
 // Layouts granted on a plan, and what is printed of the plan then.
+#![tactic(auto)]
+
 pub mod entries;
 pub mod listing;
 pub mod load;

@@ -1,4 +1,6 @@
 // Worked cases: some proved on the definitions, the rest run on the unit and compared with what they should be.
+#![tactic(auto)]
+
 mod bound_cases;
 mod check_cases;
 mod grant_cases;

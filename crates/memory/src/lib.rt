@@ -1,5 +1,7 @@
 // Memories: what one means to the code above it, and three of them: RAM, a register bank and a pair.
 // A constructor takes `FieldBits` for what they show: that F is the width of a field.
+#![tactic(auto)]
+
 pub mod bank;
 pub mod buffer;
 mod bytes;

@@ -1,4 +1,6 @@
 // Reads a layout from standard input, and prints its entries and switch words, or why it is refused.
+#![tactic(auto)]
+
 use loading::report::report_text;
 use std::io;
 use std::io::Read;

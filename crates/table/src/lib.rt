@@ -1,4 +1,6 @@
 // The register table: 64 entries, the switch words, and the check of an access against them.
+#![tactic(auto)]
+
 pub mod bounds;
 pub mod check;
 mod context;
