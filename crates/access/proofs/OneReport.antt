@@ -1,5 +1,5 @@
 -- A refusal is known by its report: no two refusals have one number and one list of values. Assumes nothing.
-use Rattle.std.proofs.Common.{◌≡◌, ℕ, List, [], ◌∷◌, get_or, refl, ap, arith}
+use Rattle.std.proofs.Common.{◌≡◌, ℕ, List, get_or, refl, ap, arith}
 use Rattle.access.specs.Cases.{Report}
 use Rattle.access.specs.Refusals.{report_of, carried}
 use Rattle.access.specs.declared.refusal.Fault.{Fault}

@@ -1,10 +1,9 @@
 -- The bits of a packed list of decisions are the decisions. Assumes nothing.
-use Rattle.std.proofs.Common.{◌≡◌, ℕ, zero, suc, ◌+◌, ◌*◌, ◌/◌, ◌%◌, ◌^◌, ◌<◌, Bool, true, false, cond, eqb, List, [], ◌∷◌, get_or, sym, refl, ap, ◌∙◌, arith, lit<}
+use Rattle.std.proofs.Common.{◌≡◌, ℕ, zero, suc, ◌+◌, ◌*◌, ◌/◌, ◌%◌, ◌^◌, Bool, true, false, cond, eqb, List, [], ◌∷◌, get_or, sym, refl, ap, ◌∙◌, arith}
 use native.Mathlib.Nat.{zero-div}
 use Rattle.std.proofs.lemmas.Nat.{shr-shr}
 use Rattle.access.specs.declared.access.Kind.{Kind}
 use Rattle.access.specs.declared.access.Kind.TheVariants.{Load, Store, Fetch}
-use Rattle.access.specs.declared.access.Mode.{Mode}
 use Rattle.access.specs.declared.access.Mode.TheVariants.{Supervisor, User}
 use Rattle.book.specs.Bits.{bit, bits_of}
 use Rattle.book.specs.SpmpBook.{spmp_permits}

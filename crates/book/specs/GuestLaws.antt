@@ -1,5 +1,5 @@
 -- The laws of the guest book. Assumes nothing.
-use Rattle.std.specs.Prelude.{◌≡◌, ℕ, ◌/◌, ◌%◌, ◌^◌, ◌<◌, Bool, true, ◌==◌, refl}
+use Rattle.std.specs.Prelude.{◌≡◌, ℕ, ◌/◌, ◌%◌, ◌^◌, Bool, ◌==◌, refl}
 use Rattle.std.proofs.Common.{arith, lit<}
 use Rattle.access.specs.Rights.{allows, perms_of, perms}
 use Rattle.access.specs.declared.access.Kind.{Kind}

@@ -1,5 +1,5 @@
 -- The laws of the SPMP book. Assumes nothing.
-use Rattle.std.specs.Prelude.{◌≡◌, ℕ, ◌/◌, ◌%◌, ◌^◌, ◌<◌, Bool, true, ◌==◌, refl}
+use Rattle.std.specs.Prelude.{◌≡◌, ℕ, ◌/◌, ◌%◌, ◌^◌, Bool, ◌==◌, refl}
 use Rattle.std.proofs.Common.{ap, arith, lit<}
 use Rattle.access.specs.Rights.{allows, perms_of}
 use Rattle.access.specs.declared.access.Kind.{Kind}

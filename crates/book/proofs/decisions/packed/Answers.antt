@@ -1,5 +1,5 @@
 -- The table holds the packed rows: antt computes the number that the rows give every byte, and compares the whole table with these.
-use Rattle.std.proofs.Common.{◌≡◌, ℕ, ◌<◌, List, map, arith, rules}
+use Rattle.std.proofs.Common.{ℕ, arith, rules}
 use Rattle.std.proofs.lemmas.List.FromFn.{get_or-map-range_with_len}
 use Rattle.book.specs.Bits.{bits_of}
 use Rattle.book.specs.Decisions.{decisions_on}
