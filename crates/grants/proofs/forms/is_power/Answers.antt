@@ -3,4 +3,4 @@ use Rattle.grants.proofs.Powers.{single_power}
 use Rattle.grants.proofs.forms.is_power.Goals as goal
 
 pub returns : goal.returns
-returns c = c.is-power-of-two.ensures ∙ single_power 64 c.args.length (search rules)
+returns c = c.is_power_of_two.ensures ∙ single_power 64 c.args.length (search rules)

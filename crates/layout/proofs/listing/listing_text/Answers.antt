@@ -9,7 +9,7 @@ use Rattle.layout.proofs.listing.listing_text.Goals as goal
 pub loop-entry-preserved : goal.loop-entry-preserved
 loop-entry-preserved c =
     lines_more (λ (e : EntryLine). entry_text e ++ codes "\n") [] _ _ _ c.args.entries.now c.loop-entry.entry-index _ c.loop-entry-test.true
-    c.loop-entry.invariant c.in-ok-push-str.ensures.bytes (c.as-str.ensures.value ∙ c.in-ok-line.ensures.ok)
+    c.loop-entry.invariant c.in_ok-push_str.ensures.bytes (c.as_str.ensures.value ∙ c.in_ok-line.ensures.ok)
 
 pub loop-switch-init : goal.loop-switch-init
 loop-switch-init c =
@@ -19,7 +19,7 @@ loop-switch-init c =
 pub loop-switch-preserved : goal.loop-switch-preserved
 loop-switch-preserved c =
     lines_more (λ (s : SwitchLine). switch_text s ++ codes "\n") _ _ _ _ c.args.switches.now c.loop-switch.switch-index _ c.loop-switch-test.true
-    c.loop-switch.invariant c.in-ok-push-str-2.ensures.bytes (c.as-str-in-loop-switch.ensures.value ∙ c.in-ok-line-2.ensures.ok)
+    c.loop-switch.invariant c.in_ok-push_str-2.ensures.bytes (c.as_str-in-loop-switch.ensures.value ∙ c.in_ok-line-2.ensures.ok)
 
 pub returns : goal.returns
 returns c =

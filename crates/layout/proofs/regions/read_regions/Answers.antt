@@ -17,7 +17,7 @@ loop-region-preserved c =
     let len : length c.in-Some.rest.now ≡ length c.loop-region.left.now - 16 = ap length x.3 ∙ length-drop 16 _ in
     let e = region_cases_more _ _ _ _ _ x.0 x.2 x.3 c.loop-region.invariant.3 in
     let zero : c.in-Some.fourth ≡ 0 = omega arith in
-    let push = c.in-ok-push.ensures.items in (
+    let push = c.in_ok-push.ensures.items in (
       omega arith,
       omega arith,
       items_more _ _ _ _ _ _ (next_region _ _ _ x.0 x.1 x.3) push c.loop-region.invariant.2,
@@ -27,7 +27,7 @@ loop-region-preserved c =
 
 pub returns : goal.returns
 returns c =
-    let short = c.in-default.ensures in
+    let short = c.in_default.ensures in
     record {
       answer = (region_cases_all _ _ _ short c.loop-region.invariant.3, items_all _ _ _ (regions_none _ short) c.loop-region.invariant.2);
       bytes = λ even. let none : length c.loop-region.left.now ≡ 0 = omega arith in items_all _ _ _ (nil_from_length _ none) c.loop-region.invariant.4;

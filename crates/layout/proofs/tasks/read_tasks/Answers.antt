@@ -22,7 +22,7 @@ loop-task-preserved c =
     let x = c.in-Some.ensures in
     let len : length c.in-Some.rest.now ≡ length c.loop-task.left.now - 8 = ap length x.2 ∙ length-drop 8 _ in
     let e = task_cases_more _ _ _ _ _ _ _ x.0 x.1 x.2 c.loop-task.invariant.4 in
-    let push = c.in-ok-push.ensures.items in (
+    let push = c.in_ok-push.ensures.items in (
       omega arith,
       omega arith,
       omega arith,
@@ -33,12 +33,12 @@ loop-task-preserved c =
 
 pub returns-then-sum-regions : goal.returns-then-sum-regions
 returns-then-sum-regions c =
-    let e = task_cases_all _ _ _ _ _ c.in-default.ensures c.loop-task.invariant.4 in
+    let e = task_cases_all _ _ _ _ _ c.in_default.ensures c.loop-task.invariant.4 in
     record { answer = grind (arith, nat_tests); bytes = tt }
 
 pub returns : goal.returns
 returns c =
-    let short = c.in-default.ensures in
+    let short = c.in_default.ensures in
     let e = task_cases_all _ _ _ _ _ short c.loop-task.invariant.4 in
     record {
       answer = (grind (arith, nat_tests), items_all _ _ _ (tasks_none _ short) c.loop-task.invariant.3);

@@ -11,7 +11,7 @@ returns g c =
     λ st.
     let os = c.args.plan.now.owners.cells in
     let n = c.args.n in
-    let e = c.registers-of-byte.ensures in
-    line_is g.B.RuleBook.meaning n (owner_at os n) c.in-ok-task.task c.registers-of-byte.result.0 c.registers-of-byte.result.1
-    (c.in-ok-task.ensures ∙ ap owner_task c.owner-of.ensures) e.byte ((e.registers st).1 ∙ ap (λ (r : Registers). r.address n) st.resident)
+    let e = c.registers_of-byte.ensures in
+    line_is g.B.RuleBook.meaning n (owner_at os n) c.in_ok-task.task c.registers_of-byte.result.0 c.registers_of-byte.result.1
+    (c.in_ok-task.ensures ∙ ap owner_task c.owner_of.ensures) e.byte ((e.registers st).1 ∙ ap (λ (r : Registers). r.address n) st.resident)
     (address_fits 32 (owner_at os n) (placed_fits 32 os st.placed n))

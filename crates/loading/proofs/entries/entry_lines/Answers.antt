@@ -16,6 +16,6 @@ loop-n-preserved g c =
     let b = g.B.RuleBook.meaning in
     let os = c.args.plan.now.owners.cells in
     let n = c.loop-n.n in
-    c.in-ok-push-entry.ensures st
+    c.in_ok-push_entry.ensures st
     ∙ ap (λ (x : List EntryLine). x ++ option_to_list (entry_line b n (owner_at os n))) (c.loop-n.invariant st)
     ∙ entries_more b os n

@@ -14,13 +14,13 @@ returns g c =
     let p = c.args.plan.now in
     let os = p.owners.cells in
     let listed = λ (st : PlanStands b p).
-    subst (λ (x : List ℕ). IfOk c.listing-text.result (λ s. string_bytes s ≡ x))
-    (ap (λ (x : List EntryLine). listing_text x c.as-slice-2.result.now) (c.as-slice.ensures.value ∙ c.in-ok-entries.ensures st)
-    ∙ ap (λ (x : List SwitchLine). listing_text (entry_lines b os) x) (c.as-slice-2.ensures.value ∙ c.in-ok-switches.ensures))
-    c.listing-text.ensures in
+    subst (λ (x : List ℕ). IfOk c.listing_text.result (λ s. string_bytes s ≡ x))
+    (ap (λ (x : List EntryLine). listing_text x c.as_slice-2.result.now) (c.as_slice.ensures.value ∙ c.in_ok-entries.ensures st)
+    ∙ ap (λ (x : List SwitchLine). listing_text (entry_lines b os) x) (c.as_slice-2.ensures.value ∙ c.in_ok-switches.ensures))
+    c.listing_text.ensures in
     record {
       standing = listed;
       after = λ cs st.
-          subst (λ (x : List Owner). IfOk c.listing-text.result (λ s. string_bytes s ≡ owners_text b x c.args.tasks)) st.owners
+          subst (λ (x : List Owner). IfOk c.listing_text.result (λ s. string_bytes s ≡ owners_text b x c.args.tasks)) st.owners
           (listed (calls_stand b p cs st));
     }

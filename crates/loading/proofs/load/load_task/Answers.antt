@@ -19,24 +19,24 @@ loop-i-preserved g c =
     λ cs st.
     let s = c.loop-i.invariant cs st in (
       _,
-      c.grant-region.ensures.calls s.0 s.1,
+      c.grant_region.ensures.calls s.0 s.1,
       s.2
           ∙ task_on g.row.F g.P.Plan.plan.terms s.0 c.args.task c.args.first c.loop-i.i _ c.args.regions.now c.loop-i-test.true
-          (c.in-ok-grant-region.ensures.answer s.0 s.1),
+          (c.in_ok-grant_region.ensures.answer s.0 s.1),
     )
 
-pub returns-in-err-grant-region : goal.returns-in-err-grant-region
-returns-in-err-grant-region g c =
+pub returns-in_err-grant_region : goal.returns-in_err-grant_region
+returns-in_err-grant_region g c =
     let p = err_from_is_err_and c.from-residual.result c.from-residual.ensures.1 in
     let ended = λ (cs : List PlanCall) (st : g.P.Plan.stands c.args.plan.now cs).
     let s = c.loop-i.invariant cs st in
     s.2
     ∙ task_stop g.row.F g.P.Plan.plan.terms s.0 c.args.task c.args.first c.loop-i.i _ c.args.regions.now c.loop-i-test.true _
-    (c.in-err-grant-region.ensures.answer s.0 s.1) in
+    (c.in_err-grant_region.ensures.answer s.0 s.1) in
     record {
       calls = λ cs st.
           let s = c.loop-i.invariant cs st in
-          subst (λ (x : Outcome). g.P.Plan.stands c.grant-region.new.plan x.calls) (sym (ended cs st)) (c.grant-region.ensures.calls s.0 s.1);
+          subst (λ (x : Outcome). g.P.Plan.stands c.grant_region.new.plan x.calls) (sym (ended cs st)) (c.grant_region.ensures.calls s.0 s.1);
       answer = λ cs st. rw (p.1, p.2) (ap (λ (x : Outcome). x.refusal) (ended cs st));
     }
 

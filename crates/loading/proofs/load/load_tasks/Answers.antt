@@ -6,8 +6,8 @@ use Rattle.loading.proofs.Parts.{within}
 use Rattle.loading.proofs.Steps.{tasks_on, tasks_stop, tasks_end}
 use Rattle.loading.proofs.load.load_tasks.Goals as goal
 
-pub slice-bounds-load-task-end : goal.slice-bounds-load-task-end
-slice-bounds-load-task-end g c =
+pub slice_bounds-load_task-end : goal.slice_bounds-load_task-end
+slice_bounds-load_task-end g c =
     let h = within c.args.tasks.now c.loop-task.task (record { first = 0; count = 0 }) c.requires.0 c.loop-task-test.true in omega (arith, c.requires.1)
 
 pub loop-task-init : goal.loop-task-init
@@ -18,24 +18,24 @@ loop-task-preserved g c =
     λ cs st.
     let s = c.loop-task.invariant cs st in (
       _,
-      c.load-task.ensures.calls s.0 s.1,
+      c.load_task.ensures.calls s.0 s.1,
       s.2
           ∙ tasks_on g.row.F g.P.Plan.plan.terms s.0 c.loop-task.task (record { first = 0; count = 0 }) c.args.tasks.now c.args.regions.now _ c.loop-task-test.true (omega arith)
-          (c.in-ok-load-task.ensures.answer s.0 s.1),
+          (c.in_ok-load_task.ensures.answer s.0 s.1),
     )
 
-pub returns-in-err-load-task : goal.returns-in-err-load-task
-returns-in-err-load-task g c =
+pub returns-in_err-load_task : goal.returns-in_err-load_task
+returns-in_err-load_task g c =
     let p = err_from_is_err_and c.from-residual.result c.from-residual.ensures.1 in
     let ended = λ (cs : List PlanCall) (st : g.P.Plan.stands c.args.plan.now cs).
     let s = c.loop-task.invariant cs st in
     s.2
     ∙ tasks_stop g.row.F g.P.Plan.plan.terms s.0 c.loop-task.task (record { first = 0; count = 0 }) c.args.tasks.now c.args.regions.now _ c.loop-task-test.true (omega arith) _
-    (c.in-err-load-task.ensures.answer s.0 s.1) in
+    (c.in_err-load_task.ensures.answer s.0 s.1) in
     record {
       calls = λ cs st.
           let s = c.loop-task.invariant cs st in
-          subst (λ (x : Outcome). g.P.Plan.stands c.load-task.new.plan x.calls) (sym (ended cs st)) (c.load-task.ensures.calls s.0 s.1);
+          subst (λ (x : Outcome). g.P.Plan.stands c.load_task.new.plan x.calls) (sym (ended cs st)) (c.load_task.ensures.calls s.0 s.1);
       answer = λ cs st. rw (p.1, p.2) (ap (λ (x : Outcome). x.refusal) (ended cs st));
     }
 

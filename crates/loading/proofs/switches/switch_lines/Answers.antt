@@ -12,7 +12,7 @@ pub loop-task-preserved : goal.loop-task-preserved
 loop-task-preserved g c =
     let os = c.args.plan.now.owners.cells in
     let t = c.loop-task.task in
-    c.in-ok-push.ensures.items
-    ∙ ap (λ (x : SwitchLine). c.loop-task.lines.items ++ (x ∷ [])) c.switch-line.ensures
+    c.in_ok-push.ensures.items
+    ∙ ap (λ (x : SwitchLine). c.loop-task.lines.items ++ (x ∷ [])) c.switch_line.ensures
     ∙ ap (λ (x : List SwitchLine). x ++ (switch_line os t ∷ [])) c.loop-task.invariant
     ∙ switches_more os t

@@ -6,4 +6,4 @@ pub returns : goal.returns
 returns g c =
     let bs = c.args.buffer.now in
     let old : (k : ℕ) → get_or bs k 0 < 256 = λ k. search rules in
-    stored_into g.row.F bs _ (search rules) old (λ k. omega (arith, c.type-inv.buffer k)) c.args.address c.args.width c.args.value c.args.bits.fits c.store.result (search rules) (search rules)
+    stored_into g.row.F bs _ (search rules) old (λ k. omega (arith, c.type_inv.buffer k)) c.args.address c.args.width c.args.value c.args.bits.fits c.store.result (search rules) (search rules)

@@ -10,20 +10,20 @@ loop-i-init c =
     let n = length c.args.part.now in
     ap (value_at (byte_in c.args.part.now) n) (sym (sub_self n))
 
-pub overflow-mul-value : goal.overflow-mul-value
-overflow-mul-value c =
+pub overflow_mul-value : goal.overflow_mul-value
+overflow_mul-value c =
     let xs = c.args.part.now in
     omega (arith, c.loop-i.invariant, value_seven (byte_in xs) c.loop-i.i (length xs - c.loop-i.i) (λ k. omega arith) (omega arith))
 
-pub overflow-add-value : goal.overflow-add-value
-overflow-add-value c =
+pub overflow_add-value : goal.overflow_add-value
+overflow_add-value c =
     let xs = c.args.part.now in
-    omega (arith, c.loop-i.invariant, c.type-inv.part (c.loop-i.i - 1), value_seven (byte_in xs) c.loop-i.i (length xs - c.loop-i.i) (λ k. omega arith) (omega arith))
+    omega (arith, c.loop-i.invariant, c.type_inv.part (c.loop-i.i - 1), value_seven (byte_in xs) c.loop-i.i (length xs - c.loop-i.i) (λ k. omega arith) (omega arith))
 
 pub loop-i-preserved : goal.loop-i-preserved
 loop-i-preserved c =
     let xs = c.args.part.now in
-    value_front (byte_in xs) (length xs) c.loop-i.i c.loop-i.value _ (omega arith) (omega arith) c.loop-i.invariant (omega (arith, c.type-inv.part (c.loop-i.i - 1)))
+    value_front (byte_in xs) (length xs) c.loop-i.i c.loop-i.value _ (omega arith) (omega arith) c.loop-i.invariant (omega (arith, c.type_inv.part (c.loop-i.i - 1)))
 
 pub returns : goal.returns
 returns c =

@@ -8,4 +8,4 @@ returns c =
     let a = c.args.start in
     let w = c.args.width in
     let long = length_part xs a w c.requires in
-    byte_in_put xs c.write-le.new.part a w c.args.value c.requires (c.write-le.auto.part ∙ long) (λ k h. c.write-le.ensures k (omega arith))
+    byte_in_put xs c.write_le.new.part a w c.args.value c.requires (c.write_le.auto.part ∙ long) (λ k h. c.write_le.ensures k (omega arith))

@@ -19,7 +19,7 @@ loop-call-preserved g c =
     let before = vec_items c.loop-call.turns in
     let after = vec_items c.push.new.self in
     let start = g.M.Memory.meaning c.args.memory.now in
-    let pushed = c.in-ok-push.ensures in
+    let pushed = c.in_ok-push.ensures in
     let lt : i < length calls = omega arith in
     let back : reverse after ≡ turn ∷ reverse before = newest before after turn pushed.items in (
       subst (λ (ts : List Turn). At g.row.F g.P.Plan.book g.P.Plan.plan g.P.Plan.stands start (plan_of c.play-next.result.0) (is_user c.play-next.result.0) (g.M.Memory.meaning c.play-next.new.memory) (history_of ts))

@@ -22,8 +22,8 @@ returns-in-2 c =
     let h : a_field c.args.byte ≡ 2 = omega arith in
     sym (ap matching_at h)
 
-pub returns-in-default : goal.returns-in-default
-returns-in-default c =
+pub returns-in_default : goal.returns-in_default
+returns-in_default c =
     let m = and_mask (c.args.byte / 2 ^ 3) 2 in
     let h : a_field c.args.byte ≡ 3 = omega arith in
     sym (ap matching_at h)

@@ -6,7 +6,7 @@ use Rattle.text.proofs.digits.+write_digits.Goals as goal
 pub returns : goal.returns
 returns g t c plain ok =
     let some : 0 < c.args.count = omega arith in
-    let high = c.in-ok-write-digits.ensures plain (refl {a = true}) in
+    let high = c.in_ok-write_digits.ensures plain (refl {a = true}) in
     let last = c.write.ensures.writes high.plain ok in
     let whole = has_written_append g.W.Write.write_str_gives _ _ _ _ _ high last in
-    has_written_of_eq g.W.Write.write_str_gives _ _ _ _ (simp (c.from.ensures, c.from-2.ensures, c.digit-of-last.ensures) (digits_more _ _ _ some)) whole
+    has_written_of_eq g.W.Write.write_str_gives _ _ _ _ (simp (c.from.ensures, c.from-2.ensures, c.digit_of-last.ensures) (digits_more _ _ _ some)) whole

@@ -6,12 +6,12 @@ use Rattle.grants.proofs.owner.Owners.lowest_pair.Goals as goal
 pub loop-i-init : goal.loop-i-init
 loop-i-init c = lowest_start _
 
-pub returns-then-is-free : goal.returns-then-is-free
-returns-then-is-free c =
-    let e = ap₂ (λ (x y : Bool). x && y) (sym c.is-free.ensures) (sym c.is-free-in-loop-i.ensures) in
-    sym (lowest_found (free_pair_at c.args.self.now.cells) c.loop-i.i 63 (omega arith) c.loop-i.invariant (e ∙ c.if-is-free.true))
+pub returns-then-is_free : goal.returns-then-is_free
+returns-then-is_free c =
+    let e = ap₂ (λ (x y : Bool). x && y) (sym c.is_free.ensures) (sym c.is_free-in-loop-i.ensures) in
+    sym (lowest_found (free_pair_at c.args.self.now.cells) c.loop-i.i 63 (omega arith) c.loop-i.invariant (e ∙ c.if-is_free.true))
 
 pub loop-i-preserved : goal.loop-i-preserved
 loop-i-preserved c =
-    let e = ap₂ (λ (x y : Bool). x && y) (sym c.is-free.ensures) (sym c.is-free-in-loop-i.ensures) in
-    lowest_more (free_pair_at c.args.self.now.cells) c.loop-i.i c.loop-i.invariant (e ∙ c.if-is-free.false)
+    let e = ap₂ (λ (x y : Bool). x && y) (sym c.is_free.ensures) (sym c.is_free-in-loop-i.ensures) in
+    lowest_more (free_pair_at c.args.self.now.cells) c.loop-i.i c.loop-i.invariant (e ∙ c.if-is_free.false)

@@ -18,14 +18,14 @@ use Rattle.grants.proofs.Taking.{grant_placed}
 use Rattle.grants.proofs.Walks.{is_room, room_below}
 use Rattle.grants.proofs.resident.ResidentPlan.grant.Goals as goal
 
-pub returns-in-err-region : goal.returns-in-err-region
-returns-in-err-region g c =
+pub returns-in_err-region : goal.returns-in_err-region
+returns-in_err-region g c =
     let f = g.row.F in
     let a = c.args in
     let p = a.self.now in
     let os = p.owners.cells in
     let e = err_from_is_err_and c.from-residual.result c.from-residual.ensures.1 in
-    let q = c.in-err-region.ensures ∙ ap (λ (x : GrantRefusal). Some (grant_report x)) (sym e.2) in
+    let q = c.in_err-region.ensures ∙ ap (λ (x : GrantRefusal). Some (grant_report x)) (sym e.2) in
     let n = grant_early f 16 (held os a.task) a.task a.base a.length a.rights (has_room os) (grant_report e.0) q in
     record {
       answer = subst (Answered (grant_answer f os a.task a.base a.length a.rights) p p) (sym e.1) (n, refl);
@@ -35,13 +35,13 @@ returns-in-err-region g c =
       stands = λ h. (h, selected_shown f g.B.RuleBook.meaning g.met.B.RuleBook.lawful _ _ _ h);
     }
 
-pub returns-in-default : goal.returns-in-default
-returns-in-default g c =
+pub returns-in_default : goal.returns-in_default
+returns-in_default g c =
     let f = g.row.F in
     let a = c.args in
     let os = a.self.now.owners.cells in
-    let q = c.in-ok-region.ensures in
-    let n : room_for os (form_of a.base a.length) ≡ None = ap (room_for os) (sym c.form-of-form.ensures) ∙ sym c.room.ensures ∙ c.in-default.is in
+    let q = c.in_ok-region.ensures in
+    let n : room_for os (form_of a.base a.length) ≡ None = ap (room_for os) (sym c.form_of-form.ensures) ∙ sym c.room.ensures ∙ c.in_default.is in
     let x = answer_full f os a.task a.base a.length a.rights q.0 n in
     record {
       answer = (x, refl);
@@ -55,11 +55,11 @@ pub occupy-requires : goal.occupy-requires
 occupy-requires g c =
     let a = c.args in
     let os = a.self.now.owners.cells in
-    let q = c.in-ok-region.ensures in (
+    let q = c.in_ok-region.ensures in (
       lit< tt,
       (
-        room_below os c.form-of-form.result c.in-Some.i (is_room os c.form-of-form.result (Some c.in-Some.i) (sym c.in-Some.is ∙ c.room.ensures)),
-        placeable g.row.F os a.task a.base a.length a.rights c.in-ok-region.region q.1 q.0,
+        room_below os c.form_of-form.result c.in-Some.i (is_room os c.form_of-form.result (Some c.in-Some.i) (sym c.in-Some.is ∙ c.room.ensures)),
+        placeable g.row.F os a.task a.base a.length a.rights c.in_ok-region.region q.1 q.0,
       ),
     )
 
@@ -70,16 +70,16 @@ returns g c =
     let a = c.args in
     let p = a.self.now in
     let os = p.owners.cells in
-    let region = c.in-ok-region.region in
+    let region = c.in_ok-region.region in
     let i = c.in-Some.i in
-    let q = c.in-ok-region.ensures in
-    let n : room_for os (form_of a.base a.length) ≡ Some i = ap (room_for os) (sym c.form-of-form.ensures) ∙ sym c.room.ensures ∙ c.in-Some.is in
+    let q = c.in_ok-region.ensures in
+    let n : room_for os (form_of a.base a.length) ≡ Some i = ap (room_for os) (sym c.form_of-form.ensures) ∙ sym c.room.ensures ∙ c.in-Some.is in
     let o = c.occupy.ensures in
-    let s = c.switch-on.ensures in
+    let s = c.switch_on.ensures in
     let done = answer_done f os a.task a.base a.length a.rights q.0 i n in
-    let owners = s.owners ∙ o.owners ∙ ap (λ (x : Form). occupied os x a.task region i) c.form-of-form.ensures
+    let owners = s.owners ∙ o.owners ∙ ap (λ (x : Form). occupied os x a.task region i) c.form_of-form.ensures
     ∙ sym (after_accepted f os a.task a.base a.length a.rights region q.1 i done n) in
-    let last = c.switch-on.new.self in
+    let last = c.switch_on.new.self in
     let registers : Resident m (regs p.table) os p.selected → Resident m (regs last.table) last.owners.cells last.selected = λ h. s.registers (o.entries (entries_of_image os p.selected m _ h)) ∙ (λ j. image m (sym s.owners j) (sym s.selected j)) in
     record {
       answer = (done, tt);

@@ -12,8 +12,8 @@ returns g c =
     let i = c.args.i in
     let o = c.args.owner in
     let r = regs p.table in
-    let w = write_made 64 i _ _ c.write-entry.result c.requires.0 c.write-entry.ensures.written
-    ∙ (λ j. entry_written f m r i (c.byte-of-byte.ensures j) (c.address-of-address.ensures c.requires.1 j)) in
+    let w = write_made 64 i _ _ c.write_entry.result c.requires.0 c.write_entry.ensures.written
+    ∙ (λ j. entry_written f m r i (c.byte_of-byte.ensures j) (c.address_of-address.ensures c.requires.1 j)) in
     record {
       owners = refl;
       selected = refl;

@@ -33,8 +33,8 @@ returns g c =
     let t = c.args.task in
     let h : ltb t 16 ≡ true = lt-ltb t 16 (omega arith) in
     let x : select_answer t ≡ None = λ j. cond (not (h j)) (Some (refused 21 [])) None in
-    let s = c.switch-on.ensures in
-    let last = c.switch-on.new.self in
+    let s = c.switch_on.ensures in
+    let last = c.switch_on.new.self in
     let registers : Resident m (regs p.table) os p.selected → Resident m (regs last.table) last.owners.cells last.selected = λ h. s.registers (entries_of_image os p.selected m _ h) ∙ (λ j. image m (sym s.owners j) (sym s.selected j)) in
     record {
       answer = (x, tt);

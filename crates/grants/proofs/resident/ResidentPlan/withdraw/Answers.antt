@@ -25,12 +25,12 @@ returns-then-task-ge-TASKS g c =
       stands = λ h. (h, selected_shown g.row.F g.B.RuleBook.meaning g.met.B.RuleBook.lawful _ _ _ h);
     }
 
-pub returns-in-default : goal.returns-in-default
-returns-in-default g c =
+pub returns-in_default : goal.returns-in_default
+returns-in_default g c =
     let os = c.args.self.now.owners.cells in
     let t = c.args.task in
     let b = c.args.base in
-    let x = withdraw_missing os t b (lt-ltb t 16 (omega arith)) (sym c.find.ensures.value ∙ c.in-default.is) in
+    let x = withdraw_missing os t b (lt-ltb t 16 (omega arith)) (sym c.find.ensures.value ∙ c.in_default.is) in
     record {
       answer = (x, refl);
       owners = sym (after_kept os t b _ x);
@@ -56,9 +56,9 @@ returns g c =
     let n : found_at os t b ≡ Some i = sym c.find.ensures.value ∙ c.in-Some.is in
     let done = withdraw_done os t b (lt-ltb t 16 (omega arith)) i n in
     let v = c.vacate.ensures in
-    let s = c.switch-on.ensures in
+    let s = c.switch_on.ensures in
     let owners = s.owners ∙ v.owners ∙ sym (after_vacated os t b i done n) in
-    let last = c.switch-on.new.self in
+    let last = c.switch_on.new.self in
     let registers : Resident m (regs p.table) os p.selected → Resident m (regs last.table) last.owners.cells last.selected = λ h. s.registers (v.entries (entries_of_image os p.selected m _ h)) ∙ (λ j. image m (sym s.owners j) (sym s.selected j)) in
     record {
       answer = (done, tt);

@@ -8,6 +8,6 @@ returns-in-len16-up c =
     let b = c.args.file.now in
     let h : 16 ≤ length b = omega (arith, ltb-false) in
     record {
-      words = (h, c.word-of-tasks.ensures.value, c.word-of-regions.ensures.value, c.word-of-task-offset.ensures.value, c.word-of-region-offset.ensures.value, take_rest b 16);
-      bytes = four_words b _ _ _ _ _ h c.word-of-tasks.ensures.bytes c.word-of-regions.ensures.bytes c.word-of-task-offset.ensures.bytes c.word-of-region-offset.ensures.bytes (take_rest b 16);
+      words = (h, c.word_of-tasks.ensures.value, c.word_of-regions.ensures.value, c.word_of-task_offset.ensures.value, c.word_of-region_offset.ensures.value, take_rest b 16);
+      bytes = four_words b _ _ _ _ _ h c.word_of-tasks.ensures.bytes c.word_of-regions.ensures.bytes c.word_of-task_offset.ensures.bytes c.word_of-region_offset.ensures.bytes (take_rest b 16);
     }

@@ -8,8 +8,8 @@ returns-in-len16-up c =
     let b = c.args.bytes.now in
     let h : 16 ≤ length b = omega (arith, ltb-false) in (
       h,
-      cc (c.word-of-base.ensures.value, c.word-of-length.ensures.value, c.word-of-rights.ensures.value),
-      c.word-of-fourth.ensures.value,
+      cc (c.word_of-base.ensures.value, c.word_of-length.ensures.value, c.word_of-rights.ensures.value),
+      c.word_of-fourth.ensures.value,
       take_rest b 16,
-      four_words b _ _ _ _ _ h c.word-of-base.ensures.bytes c.word-of-length.ensures.bytes c.word-of-rights.ensures.bytes c.word-of-fourth.ensures.bytes (take_rest b 16),
+      four_words b _ _ _ _ _ h c.word_of-base.ensures.bytes c.word_of-length.ensures.bytes c.word_of-rights.ensures.bytes c.word_of-fourth.ensures.bytes (take_rest b 16),
     )

@@ -8,7 +8,7 @@ returns-in-len8-up c =
     let b = c.args.bytes.now in
     let h : 8 ≤ length b = omega (arith, ltb-false) in (
       h,
-      cc (c.word-of-first.ensures.value, c.word-of-count.ensures.value),
+      cc (c.word_of-first.ensures.value, c.word_of-count.ensures.value),
       take_rest b 8,
-      two_words b _ _ _ h c.word-of-first.ensures.bytes c.word-of-count.ensures.bytes (take_rest b 8),
+      two_words b _ _ _ h c.word_of-first.ensures.bytes c.word_of-count.ensures.bytes (take_rest b 8),
     )

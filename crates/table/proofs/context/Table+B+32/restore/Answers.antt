@@ -10,16 +10,16 @@ returns g c =
     let m = g.B.RuleBook.meaning in
     let r = regs c.args.self.now in
     let word = words_of c.args.buffer.now in
-    let e = c.restore-configs.ensures r 64 c.restore-addresses.ensures in
-    let q = c.set-switches.ensures ∙ (λ i. with_switch (e i) (word 80 + word 81 * 2 ^ 32)) in
+    let e = c.restore_configs.ensures r 64 c.restore_addresses.ensures in
+    let q = c.set_switches.ensures ∙ (λ i. with_switch (e i) (word 80 + word 81 * 2 ^ 32)) in
     record {
       written = (search rules, q);
       legal = λ l. subst (AllLegal m) (sym q) (restored_legal m r word l);
       back = comes_back m g.met.B.RuleBook.lawful;
     }
 
-pub returns-then-buffer-lt-SAVED-WORDS : goal.returns-then-buffer-lt-SAVED-WORDS
-returns-then-buffer-lt-SAVED-WORDS g c = record {
+pub returns-then-buffer-lt-SAVED_WORDS : goal.returns-then-buffer-lt-SAVED_WORDS
+returns-then-buffer-lt-SAVED_WORDS g c = record {
   written = (search rules, refl);
   legal = λ l. l;
   back = comes_back g.B.RuleBook.meaning g.met.B.RuleBook.lawful;

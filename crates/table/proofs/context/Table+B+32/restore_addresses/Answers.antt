@@ -9,6 +9,6 @@ pub loop-i-preserved : goal.loop-i-preserved
 loop-i-preserved g c =
     let word = words_of c.args.buffer.now in
     let i = c.loop-i.i in
-    c.set-address.ensures
+    c.set_address.ensures
     ∙ (λ j. with_address_at (c.loop-i.invariant j) i (c.from.ensures j))
     ∙ address_more g.B.RuleBook.meaning (regs c.args.self.now) word i 0

@@ -9,7 +9,7 @@ loop-n-preserved g c = λ r k e.
     let m = g.B.RuleBook.meaning in
     let word = words_of c.args.buffer.now in
     let n = c.loop-n.n in
-    c.write-bytes.ensures ∙ (λ j. bytes_written m (c.loop-n.invariant r k e j) (4 * n) (c.from.ensures j) 4) ∙ config_more m r word k n
+    c.write_bytes.ensures ∙ (λ j. bytes_written m (c.loop-n.invariant r k e j) (4 * n) (c.from.ensures j) 4) ∙ config_more m r word k n
 
 pub returns : goal.returns
 returns g c = λ r k e.

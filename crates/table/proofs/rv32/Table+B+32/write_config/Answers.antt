@@ -8,6 +8,6 @@ pub returns : goal.returns
 returns g c =
     let m = g.B.RuleBook.meaning in
     record {
-      legal = λ l. subst (AllLegal m) (sym c.write-bytes.ensures) (written_legal m (regs c.args.self.now) (4 * c.args.n) _ 4 l);
+      legal = λ l. subst (AllLegal m) (sym c.write_bytes.ensures) (written_legal m (regs c.args.self.now) (4 * c.args.n) _ 4 l);
       written = search rules;
     }

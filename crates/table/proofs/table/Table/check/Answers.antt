@@ -12,14 +12,14 @@ use Rattle.table.proofs.Permits.{passes_with, refused_as, stopped_as, decided_pa
 use Rattle.table.proofs.Verdicts.{one_answer}
 use Rattle.table.proofs.table.Table.check.Goals as goal
 
-pub returns-in-err-well-formed : goal.returns-in-err-well-formed
-returns-in-err-well-formed g c =
+pub returns-in_err-well_formed : goal.returns-in_err-well_formed
+returns-in_err-well_formed g c =
     let a = c.args in
     let b = g.B.RuleBook.meaning in
     let r = regs a.self.now in
     let v = ill_formed g.row.F a.kind a.address a.width in
     let p = err_from_is_err_and c.from-residual.result c.from-residual.ensures.1 in
-    let e = c.in-err-well-formed.ensures.answer ∙ ap (λ (x : Refusal). Some (report_of x)) (sym p.2) in
+    let e = c.in_err-well_formed.ensures.answer ∙ ap (λ (x : Refusal). Some (report_of x)) (sym p.2) in
     record {
       answer = subst (Checked g.row.F b r a.mode a.sum a.kind a.address a.width) (sym p.1)
           (refused_as b r a.mode a.sum a.kind a.address a.width v (report_of p.0) e);
@@ -33,7 +33,7 @@ returns-in-Machine g c =
     let r = regs a.self.now in
     record {
       answer = passes_with b r a.mode a.sum a.kind a.address a.width
-          (ill_formed g.row.F a.kind a.address a.width) 64 c.in-ok-well-formed.ensures.answer.0
+          (ill_formed g.row.F a.kind a.address a.width) 64 c.in_ok-well_formed.ensures.answer.0
           (subst (λ (m : Mode). Passes b r m a.sum a.kind a.address a.width 64) (sym c.in-Machine.is) refl);
       one = one_answer g.row.F b;
     }
@@ -46,8 +46,8 @@ returns-then-permitted g c =
     let e = c.deciding-entry.result in
     record {
       answer = passes_with b r a.mode a.sum a.kind a.address a.width
-          (ill_formed g.row.F a.kind a.address a.width) e c.in-ok-well-formed.ensures.answer.0
-          (decided_pass b r a.mode a.sum a.kind a.address a.width e c.in-default.not-Machine c.deciding-entry.ensures
+          (ill_formed g.row.F a.kind a.address a.width) e c.in_ok-well_formed.ensures.answer.0
+          (decided_pass b r a.mode a.sum a.kind a.address a.width e c.in_default.not-Machine c.deciding-entry.ensures
           (c.permitted.ensures.0 c.if-permitted.true));
       one = one_answer g.row.F b;
     }
@@ -59,11 +59,11 @@ returns-else-permitted g c =
     let r = regs a.self.now in
     let e = c.deciding-entry.result in
     let v = ill_formed g.row.F a.kind a.address a.width in
-    let s = decided_stop b r a.mode a.sum a.kind a.address a.width e c.in-default.not-Machine c.deciding-entry.ensures
+    let s = decided_stop b r a.mode a.sum a.kind a.address a.width e c.in_default.not-Machine c.deciding-entry.ensures
     (λ p. both_ways c.permitted.result c.if-permitted.false (c.permitted.ensures.1 p)) in
     record {
       answer = subst (λ (n : ℕ). RefusedAs b r a.mode a.sum a.kind a.address a.width v (refused 51 (n ∷ a.address ∷ e ∷ [])))
-          (sym c.table-cause.ensures)
-          (stopped_as b r a.mode a.sum a.kind a.address a.width v e c.in-ok-well-formed.ensures.answer.0 s);
+          (sym c.table_cause.ensures)
+          (stopped_as b r a.mode a.sum a.kind a.address a.width v e c.in_ok-well_formed.ensures.answer.0 s);
       one = one_answer g.row.F b;
     }

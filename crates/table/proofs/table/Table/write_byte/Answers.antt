@@ -9,7 +9,7 @@ returns-then-legal g c =
     let r = registers c.args.self.now.plain in
     let m = masked c.args.byte (search rules) in
     let l = sym c.legal.ensures ∙ c.if-legal.true in
-    c.write-config.ensures.written ∙ ap (with_config_at r c.args.i) (kept_new g.B.RuleBook.meaning (r.config c.args.i) c.args.byte _ m l)
+    c.write_config.ensures.written ∙ ap (with_config_at r c.args.i) (kept_new g.B.RuleBook.meaning (r.config c.args.i) c.args.byte _ m l)
 
 pub returns-else-legal : goal.returns-else-legal
 returns-else-legal g c =

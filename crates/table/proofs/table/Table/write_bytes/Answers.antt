@@ -14,7 +14,7 @@ loop-k-preserved g c =
     let s = c.args.start in
     let k = c.loop-k.k in
     let i = c.loop-k.invariant in
-    let e = ap (λ (l : List ℕ). get_or l k 0) c.to-le-bytes-bytes.ensures ∙ byte_at c.args.word k (omega arith) in
-    c.write-byte.ensures
+    let e = ap (λ (l : List ℕ). get_or l k 0) c.to_le_bytes-bytes.ensures ∙ byte_at c.args.word k (omega arith) in
+    c.write_byte.ensures
     ∙ (λ j. with_config_at (i j) (s + k) (kept_byte m ((i j).config (s + k)) (e j)))
     ∙ one_more m (registers c.args.self.now.plain) s c.args.word k
