@@ -23,8 +23,8 @@ impl<B: RuleBook, const F: u32> ResidentPlan<B, F> {
     pub fn new(bits: FieldBits<F>) -> Self
         ensures owners { result.owners.cells ≡ replicate 64 Free }
         ensures selected { result.selected ≡ None }
-        ensures registers { PlanImaged meaning result }
-        ensures stands { PlanStands meaning result × PlanShown meaning result }
+        ensures registers { PlanImaged B.meaning result }
+        ensures stands { PlanStands B.meaning result × PlanShown B.meaning result }
     {
         ResidentPlan {
             table: Table::new(bits),
@@ -45,7 +45,7 @@ impl<B: RuleBook, const F: u32> ResidentPlan<B, F> {
         address: u64,
         width: u64,
     ) -> Result<u8, Refusal>
-        ensures { Checked F meaning (regs self.now.table) mode sum kind address width result }
+        ensures { Checked F B.meaning (regs self.now.table) mode sum kind address width result }
     {
         self.table.check(mode, sum, kind, address, width)
     }
@@ -61,8 +61,8 @@ impl<B: RuleBook, const F: u32> ResidentPlan<B, F> {
         ensures answer { Answered (grant_answer F self.old.owners.cells task base length rights) self.old self.new result }
         ensures owners { self.new.owners.cells ≡ after_grant F self.old.owners.cells task base length rights }
         ensures selected { self.new.selected ≡ self.old.selected }
-        ensures registers { PlanImaged meaning self.old → PlanImaged meaning self.new }
-        ensures stands { PlanStands meaning self.old → PlanStands meaning self.new × PlanShown meaning self.new }
+        ensures registers { PlanImaged B.meaning self.old → PlanImaged B.meaning self.new }
+        ensures stands { PlanStands B.meaning self.old → PlanStands B.meaning self.new × PlanShown B.meaning self.new }
     {
         let region = self.owners.admit(self.bits, task, base, length, rights)?;
         let form = form_of(base, length);
@@ -79,8 +79,8 @@ impl<B: RuleBook, const F: u32> ResidentPlan<B, F> {
         ensures answer { Answered (withdraw_answer self.old.owners.cells task base) self.old self.new result }
         ensures owners { self.new.owners.cells ≡ after_withdraw self.old.owners.cells task base }
         ensures selected { self.new.selected ≡ self.old.selected }
-        ensures registers { PlanImaged meaning self.old → PlanImaged meaning self.new }
-        ensures stands { PlanStands meaning self.old → PlanStands meaning self.new × PlanShown meaning self.new }
+        ensures registers { PlanImaged B.meaning self.old → PlanImaged B.meaning self.new }
+        ensures stands { PlanStands B.meaning self.old → PlanStands B.meaning self.new × PlanShown B.meaning self.new }
     {
         if task >= TASKS {
             return Err(GrantRefusal::NoSuchTask);
@@ -98,8 +98,8 @@ impl<B: RuleBook, const F: u32> ResidentPlan<B, F> {
         ensures answer { Answered (select_answer task) self.old self.new result }
         ensures owners { self.new.owners.cells ≡ self.old.owners.cells }
         ensures selected { self.new.selected ≡ after_select self.old.selected task }
-        ensures registers { PlanImaged meaning self.old → PlanImaged meaning self.new }
-        ensures stands { PlanStands meaning self.old → PlanStands meaning self.new × PlanShown meaning self.new }
+        ensures registers { PlanImaged B.meaning self.old → PlanImaged B.meaning self.new }
+        ensures stands { PlanStands B.meaning self.old → PlanStands B.meaning self.new × PlanShown B.meaning self.new }
     {
         if task >= TASKS {
             return Err(GrantRefusal::NoSuchTask);

@@ -23,9 +23,9 @@ impl<B: RuleBook, const F: u32> ResidentPlan<B, F> {
 
     // The configuration byte and the address register of entry n.
     pub fn registers_of(&self, n: usize) -> (u8, u64)
-        ensures byte { result.0 ≡ byte_of meaning (owner_at self.now.owners.cells n) }
-        ensures registers { PlanStands meaning self.now → (result.0 ≡ (regs self.now.table).config n) × (result.1 ≡ (regs self.now.table).address n) }
-        ensures regions { RegionsShown F meaning }
+        ensures byte { result.0 ≡ byte_of B.meaning (owner_at self.now.owners.cells n) }
+        ensures registers { PlanStands B.meaning self.now → (result.0 ≡ (regs self.now.table).config n) × (result.1 ≡ (regs self.now.table).address n) }
+        ensures regions { RegionsShown F B.meaning }
     {
         let owner = self.owner_of(n);
         (byte_of::<B>(owner), address_of::<F>(owner))

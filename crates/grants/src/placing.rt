@@ -47,7 +47,7 @@ pub(crate) fn address_of<const F: u32>(owner: Owner) -> u64
 
 // The configuration byte of an owner's entry.
 pub(crate) fn byte_of<B: RuleBook>(owner: Owner) -> u8
-    ensures { result ≡ byte_of meaning owner }
+    ensures { result ≡ byte_of B.meaning owner }
 {
     match owner {
         Owner::Free => 0,
@@ -64,7 +64,7 @@ impl<B: RuleBook, const F: u32> ResidentPlan<B, F> {
         requires { (i < 64) × (OwnerFits F owner) }
         ensures owners { self.new.owners.cells ≡ slice_set self.old.owners.cells i owner }
         ensures selected { self.new.selected ≡ self.old.selected }
-        ensures entries { EntriesShow meaning (regs self.old.table) self.old.owners.cells → EntriesShow meaning (regs self.new.table) self.new.owners.cells }
+        ensures entries { EntriesShow B.meaning (regs self.old.table) self.old.owners.cells → EntriesShow B.meaning (regs self.new.table) self.new.owners.cells }
     {
         let byte = byte_of::<B>(owner);
         let address = address_of::<F>(owner);
@@ -77,7 +77,7 @@ impl<B: RuleBook, const F: u32> ResidentPlan<B, F> {
         requires { (i + entries_of form ≤ 64) × (Placeable F region) }
         ensures owners { self.new.owners.cells ≡ occupied self.old.owners.cells form task region i }
         ensures selected { self.new.selected ≡ self.old.selected }
-        ensures entries { EntriesShow meaning (regs self.old.table) self.old.owners.cells → EntriesShow meaning (regs self.new.table) self.new.owners.cells }
+        ensures entries { EntriesShow B.meaning (regs self.old.table) self.old.owners.cells → EntriesShow B.meaning (regs self.new.table) self.new.owners.cells }
     {
         match form {
             Form::Na4 => self.place(i, Owner::Upper { task, region }),
@@ -94,7 +94,7 @@ impl<B: RuleBook, const F: u32> ResidentPlan<B, F> {
         requires { i < 64 }
         ensures owners { self.new.owners.cells ≡ vacated_form form self.old.owners.cells i }
         ensures selected { self.new.selected ≡ self.old.selected }
-        ensures entries { EntriesShow meaning (regs self.old.table) self.old.owners.cells → EntriesShow meaning (regs self.new.table) self.new.owners.cells }
+        ensures entries { EntriesShow B.meaning (regs self.old.table) self.old.owners.cells → EntriesShow B.meaning (regs self.new.table) self.new.owners.cells }
     {
         match form {
             Form::Na4 => self.place(i, Owner::Free),
@@ -111,7 +111,7 @@ impl<B: RuleBook, const F: u32> ResidentPlan<B, F> {
         requires { i < 64 }
         ensures owners { self.new.owners.cells ≡ vacated self.old.owners.cells i }
         ensures selected { self.new.selected ≡ self.old.selected }
-        ensures entries { EntriesShow meaning (regs self.old.table) self.old.owners.cells → EntriesShow meaning (regs self.new.table) self.new.owners.cells }
+        ensures entries { EntriesShow B.meaning (regs self.old.table) self.old.owners.cells → EntriesShow B.meaning (regs self.new.table) self.new.owners.cells }
     {
         match self.owners.cells[i] {
             Owner::Free => {}
@@ -124,7 +124,7 @@ impl<B: RuleBook, const F: u32> ResidentPlan<B, F> {
     pub(crate) fn switch_on(&mut self)
         ensures owners { self.new.owners.cells ≡ self.old.owners.cells }
         ensures selected { self.new.selected ≡ self.old.selected }
-        ensures registers { EntriesShow meaning (regs self.old.table) self.old.owners.cells → regs self.new.table ≡ image meaning self.old.owners.cells self.old.selected }
+        ensures registers { EntriesShow B.meaning (regs self.old.table) self.old.owners.cells → regs self.new.table ≡ image B.meaning self.old.owners.cells self.old.selected }
     {
         let switches = self.owners.switches(self.selected);
         self.table.write_switches(switches);

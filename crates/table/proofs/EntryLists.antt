@@ -1,7 +1,7 @@
 -- Writes to a list of entries. Assumes nothing.
 use Rattle.std.proofs.Common.{◌≡◌, ℕ, zero, suc, ◌+◌, ◌^◌, ◌<◌, ◌≤◌, eqb, ◌≢◌, ◌⊎◌, List, [], ◌∷◌, length, get_or, set, replicate, sym, refl, ap, ◌∙◌, subst, subst₂, inl, inr, ⊎_elim, add-one, arith, pow_pos}
 use mathlib.Core.Path.{fun_ext}
-use Rattle.std.proofs.lemmas.List.{get_or-set_same, get_or-set_other, set_set, length-set, get_or_past, get_or-replicate, length-replicate}
+use Rattle.std.proofs.lemmas.List.{get_or-set_same, get_or-set_other, set-set, length-set, get_or_past, get_or-replicate, length-replicate}
 use Rattle.std.proofs.lemmas.Bool.{cases_eq, cases_lt, cond-true, cond-false, cond_both, eq-eqb, ne_eqb}
 use Rattle.table.specs.Bounds.{resolved, matching_of}
 use Rattle.table.specs.Registers.{Registers, AddressesBelow, below_at, zeros, put, with_address_at, with_config_at}
@@ -35,7 +35,7 @@ module _ (es : List Entry) (i v b : ℕ) (len : length es ≡ 64) (hb : b ≡ be
       hx ∙ ap (λ (e : Entry). refreshed e b) (get_or-set_same es i (with_address (entry_at es i) v) blank l) ∙ ap (λ (n : ℕ). refreshed (with_address (entry_at es i) v) n) hb
 
   first_write : i < 64 → set (set es i (with_address (entry_at es i) v)) i x ≡ set es i (refreshed (with_address (entry_at es i) v) (below_of es i))
-  first_write h = set_set es i (with_address (entry_at es i) v) x ∙ ap (λ (e : Entry). set es i e) (same_x h)
+  first_write h = set-set es i (with_address (entry_at es i) v) x ∙ ap (λ (e : Entry). set es i e) (same_x h)
 
   pub readdressed_last : i < 64 → 64 ≤ i + 1 → set (set es i (with_address (entry_at es i) v)) i x ≡ readdressed es i v
   readdressed_last h k = first_write h ∙ sym (set_past _ (i + 1) _ (simp length-set (omega arith)))
@@ -56,7 +56,7 @@ pub reconfigured_now : (es : List Entry) (i c b : ℕ) → length es ≡ 64 → 
 reconfigured_now es i c b len hb x hx h =
     let l : i < length es = omega arith in
     let e = hx ∙ ap (λ (e : Entry). refreshed e b) (get_or-set_same es i (with_config (entry_at es i) c) blank l) ∙ ap (λ (n : ℕ). refreshed (with_config (entry_at es i) c) n) hb in
-    set_set es i (with_config (entry_at es i) c) x ∙ ap (λ (e : Entry). set es i e) e
+    set-set es i (with_config (entry_at es i) c) x ∙ ap (λ (e : Entry). set es i e) e
 
 -- ---- the kept bounds
 

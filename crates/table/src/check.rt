@@ -24,7 +24,7 @@ impl<B: RuleBook, const F: u32> Table<B, F> {
         width: u64,
     ) -> bool
         requires { (0 < width) × (address + width < 2 ^ 64) }
-        ensures { Tells result (Permitted meaning (regs self.now) entry mode sum kind address width) }
+        ensures { Tells result (Permitted B.meaning (regs self.now) entry mode sum kind address width) }
     {
         if entry >= 64 {
             return B::unmatched(mode);
@@ -44,8 +44,8 @@ impl<B: RuleBook, const F: u32> Table<B, F> {
         address: u64,
         width: u64,
     ) -> Result<u8, Refusal>
-        ensures answer { Checked F meaning (regs self.now) mode sum kind address width result }
-        ensures one { OneAnswer F meaning }
+        ensures answer { Checked F B.meaning (regs self.now) mode sum kind address width result }
+        ensures one { OneAnswer F B.meaning }
     {
         well_formed(self.plain.bits, kind, address, width)?;
         if let Mode::Machine = mode {

@@ -44,7 +44,7 @@ impl<B: RuleBook> Table<B, 32> {
     // Writes the address registers from the first words of a buffer.
     fn restore_addresses(&mut self, buffer: &[u32])
         requires { 82 ≤ length buffer.now }
-        ensures { regs self.new ≡ restored_to meaning (regs self.old) (words_of buffer.now) 64 0 }
+        ensures { regs self.new ≡ restored_to B.meaning (regs self.old) (words_of buffer.now) 64 0 }
     {
         for i in 0..64 {
             self.set_address(i, u64::from(buffer[i]));
@@ -54,7 +54,7 @@ impl<B: RuleBook> Table<B, 32> {
     // Writes the configuration registers from the words after the addresses.
     fn restore_configs(&mut self, buffer: &[u32])
         requires { 82 ≤ length buffer.now }
-        ensures { (r : Registers) (k : ℕ) → regs self.old ≡ restored_to meaning r (words_of buffer.now) k 0 → regs self.new ≡ restored_to meaning r (words_of buffer.now) k 16 }
+        ensures { (r : Registers) (k : ℕ) → regs self.old ≡ restored_to B.meaning r (words_of buffer.now) k 0 → regs self.new ≡ restored_to B.meaning r (words_of buffer.now) k 16 }
     {
         for n in 0..16 {
             self.write_bytes(4 * n, 4, u64::from(buffer[64 + n]));
@@ -63,9 +63,9 @@ impl<B: RuleBook> Table<B, 32> {
 
     // Restores the registers that a buffer begins with.
     pub fn restore(&mut self, buffer: &[u32]) -> Result<(), RegisterRefusal>
-        ensures written { Does register_report (short_buffer buffer.now) (λ _. regs self.new ≡ restored meaning (regs self.old) (words_of buffer.now)) (regs self.new ≡ regs self.old) result }
-        ensures legal { AllLegal meaning (regs self.old) → AllLegal meaning (regs self.new) }
-        ensures back { ComesBack meaning }
+        ensures written { Does register_report (short_buffer buffer.now) (λ _. regs self.new ≡ restored B.meaning (regs self.old) (words_of buffer.now)) (regs self.new ≡ regs self.old) result }
+        ensures legal { AllLegal B.meaning (regs self.old) → AllLegal B.meaning (regs self.new) }
+        ensures back { ComesBack B.meaning }
     {
         if buffer.len() < SAVED_WORDS {
             return Err(RegisterRefusal::ShortBuffer);
@@ -78,7 +78,7 @@ impl<B: RuleBook> Table<B, 32> {
 
     // Takes over the registers of another table of the book.
     pub fn copy_registers(&mut self, from: &Self)
-        ensures { AllLegal meaning (regs from.now) → Same (regs self.new) (regs from.now) }
+        ensures { AllLegal B.meaning (regs from.now) → Same (regs self.new) (regs from.now) }
     {
         let mut buffer = [0u32; SAVED_WORDS];
         let _ = from.save(&mut buffer);

@@ -16,7 +16,7 @@ impl<B: RuleBook, const F: u32> Table<B, F> {
     // A table whose registers are all zero.
     pub fn new(bits: FieldBits<F>) -> Self
         ensures zero { regs result ≡ zeros }
-        ensures legal { AllLegal meaning (regs result) }
+        ensures legal { AllLegal B.meaning (regs result) }
     {
         let plain = PlainTable::zeroed(bits);
         Table {
@@ -37,7 +37,7 @@ impl<B: RuleBook, const F: u32> Table<B, F> {
     // Writes a configuration byte by the book's rule.
     fn write_byte(&mut self, i: usize, byte: u8)
         requires { i < 64 }
-        ensures { regs self.new ≡ with_config_at (regs self.old) i (kept_byte meaning ((regs self.old).config i) byte) }
+        ensures { regs self.new ≡ with_config_at (regs self.old) i (kept_byte B.meaning ((regs self.old).config i) byte) }
     {
         let cleared = byte & 0x9f;
         if B::legal(cleared) {
@@ -47,8 +47,8 @@ impl<B: RuleBook, const F: u32> Table<B, F> {
 
     // Writes the configuration byte of entry n by the book's rule, and its address register, which keeps F bits.
     pub fn write_entry(&mut self, n: usize, byte: u8, address: u64) -> Result<(), RegisterRefusal>
-        ensures legal { AllLegal meaning (regs self.old) → AllLegal meaning (regs self.new) }
-        ensures written { Does register_report (no_register 64 n) (λ _. regs self.new ≡ entry_written F meaning (regs self.old) n byte address) (regs self.new ≡ regs self.old) result }
+        ensures legal { AllLegal B.meaning (regs self.old) → AllLegal B.meaning (regs self.new) }
+        ensures written { Does register_report (no_register 64 n) (λ _. regs self.new ≡ entry_written F B.meaning (regs self.old) n byte address) (regs self.new ≡ regs self.old) result }
     {
         if n >= 64 {
             return Err(RegisterRefusal::NoSuchRegister);
@@ -70,7 +70,7 @@ impl<B: RuleBook, const F: u32> Table<B, F> {
     pub(crate) fn write_bytes(&mut self, start: usize, count: usize, word: u64)
         requires count { count ≤ 8 }
         requires room { start + count ≤ 64 }
-        ensures { regs self.new ≡ bytes_written meaning (regs self.old) start word count }
+        ensures { regs self.new ≡ bytes_written B.meaning (regs self.old) start word count }
     {
         let bytes = word.to_le_bytes();
         for k in 0..count {

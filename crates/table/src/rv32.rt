@@ -56,8 +56,8 @@ impl<B: RuleBook> Table<B, 32> {
 
     // Writes configuration register n, each byte by the book's rule.
     pub fn write_config(&mut self, n: usize, word: u32) -> Result<(), RegisterRefusal>
-        ensures legal { AllLegal meaning (regs self.old) → AllLegal meaning (regs self.new) }
-        ensures written { Does register_report (no_register 16 n) (λ _. regs self.new ≡ bytes_written meaning (regs self.old) (4 * n) word 4) (regs self.new ≡ regs self.old) result }
+        ensures legal { AllLegal B.meaning (regs self.old) → AllLegal B.meaning (regs self.new) }
+        ensures written { Does register_report (no_register 16 n) (λ _. regs self.new ≡ bytes_written B.meaning (regs self.old) (4 * n) word 4) (regs self.new ≡ regs self.old) result }
     {
         if n >= 16 {
             return Err(RegisterRefusal::NoSuchRegister);

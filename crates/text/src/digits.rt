@@ -26,7 +26,7 @@ pub(crate) fn write_digits<W: fmt::Write>(
     n: u64,
 ) -> fmt::Result
     requires { (0 < base) × (base ≤ 16) }
-    ensures { WritesOnOk write_str_gives f.old result (digits base count n) f.new }
+    ensures { WritesOnOk W.write_str_gives f.old result (digits base count n) f.new }
 {
     if count == 0 {
         return Ok(());

@@ -27,7 +27,7 @@ loop-i-preserved g c =
 
 pub returns-in_err-grant_region : goal.returns-in_err-grant_region
 returns-in_err-grant_region g c =
-    let p = err_from_is_err_and c.from-residual.result c.from-residual.ensures.1 in
+    let p = err_from_is_err_and c.from_residual.result c.from_residual.ensures.1 in
     let ended = λ (cs : List PlanCall) (st : g.P.Plan.stands c.args.plan.now cs).
     let s = c.loop-i.invariant cs st in
     s.2

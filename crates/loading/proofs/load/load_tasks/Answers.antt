@@ -26,7 +26,7 @@ loop-task-preserved g c =
 
 pub returns-in_err-load_task : goal.returns-in_err-load_task
 returns-in_err-load_task g c =
-    let p = err_from_is_err_and c.from-residual.result c.from-residual.ensures.1 in
+    let p = err_from_is_err_and c.from_residual.result c.from_residual.ensures.1 in
     let ended = λ (cs : List PlanCall) (st : g.P.Plan.stands c.args.plan.now cs).
     let s = c.loop-task.invariant cs st in
     s.2

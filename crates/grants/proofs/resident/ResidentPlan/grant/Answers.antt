@@ -24,7 +24,7 @@ returns-in_err-region g c =
     let a = c.args in
     let p = a.self.now in
     let os = p.owners.cells in
-    let e = err_from_is_err_and c.from-residual.result c.from-residual.ensures.1 in
+    let e = err_from_is_err_and c.from_residual.result c.from_residual.ensures.1 in
     let q = c.in_err-region.ensures ∙ ap (λ (x : GrantRefusal). Some (grant_report x)) (sym e.2) in
     let n = grant_early f 16 (held os a.task) a.task a.base a.length a.rights (has_room os) (grant_report e.0) q in
     record {

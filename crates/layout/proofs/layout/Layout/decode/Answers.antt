@@ -12,20 +12,20 @@ returns-in_default c = let short = c.in_default.ensures.words in record { answer
 
 pub returns-in_err-check : goal.returns-in_err-check
 returns-in_err-check c =
-    let p = err_from_is_err_and c.from-residual.result c.from-residual.ensures.1 in
+    let p = err_from_is_err_and c.from_residual.result c.from_residual.ensures.1 in
     rw (p.1, p.2) (record { answer = tells_shape c.args.file.now c.in-Some.ensures.words _ c.in_err-check.ensures; encoding = tt; accepts = accepted })
 
 pub returns-in_err-tasks : goal.returns-in_err-tasks
 returns-in_err-tasks c =
     let s = headed c.in-Some.ensures.words c.in_ok-check.ensures.0 in
-    let p = err_from_is_err_and c.from-residual-in_err-tasks.result c.from-residual-in_err-tasks.ensures.1 in
+    let p = err_from_is_err_and c.from_residual-in_err-tasks.result c.from_residual-in_err-tasks.ensures.1 in
     rw (p.1, p.2) (record { answer = tells_tasks s _ _ (task_part_lem s) c.in_err-tasks.ensures.answer; encoding = tt; accepts = accepted })
 
 pub returns-in_err-regions : goal.returns-in_err-regions
 returns-in_err-regions c =
     let s = headed c.in-Some.ensures.words c.in_ok-check.ensures.0 in
     let none = c.in_ok-tasks.ensures.answer.0 in
-    let p = err_from_is_err_and c.from-residual-in_err-regions.result c.from-residual-in_err-regions.ensures.1 in
+    let p = err_from_is_err_and c.from_residual-in_err-regions.result c.from_residual-in_err-regions.ensures.1 in
     rw (p.1, p.2) (record { answer = tells_regions s _ _ _ (task_part_lem s) (region_part_lem s) none c.in_err-regions.ensures.answer; encoding = tt; accepts = accepted })
 
 pub invariant_of-result : goal.invariant_of-result

@@ -15,8 +15,8 @@ refresh-requires g c =
       ),
     )
 
-pub refresh_requires_then_i_lt64 : goal.refresh_requires_then_i_lt64
-refresh_requires_then_i_lt64 g c =
+pub refresh-requires-then-i-lt64 : goal.refresh-requires-then-i-lt64
+refresh-requires-then-i-lt64 g c =
     let t = c.args.self.now in
     let i = c.args.i in (
       lit< tt,

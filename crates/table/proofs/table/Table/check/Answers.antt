@@ -18,7 +18,7 @@ returns-in_err-well_formed g c =
     let b = g.B.RuleBook.meaning in
     let r = regs a.self.now in
     let v = ill_formed g.row.F a.kind a.address a.width in
-    let p = err_from_is_err_and c.from-residual.result c.from-residual.ensures.1 in
+    let p = err_from_is_err_and c.from_residual.result c.from_residual.ensures.1 in
     let e = c.in_err-well_formed.ensures.answer ∙ ap (λ (x : Refusal). Some (report_of x)) (sym p.2) in
     record {
       answer = subst (Checked g.row.F b r a.mode a.sum a.kind a.address a.width) (sym p.1)
