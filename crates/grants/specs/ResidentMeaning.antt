@@ -1,5 +1,6 @@
 -- What the plan whose regions stay in their entries is as a plan. Assumes nothing.
 use Rattle.std.specs.Prelude.{◌≡◌, ℕ, List, [], ◌∷◌, replicate, None, Option}
+use Rattle.book.specs.declared.book.RuleBook.{Ghosts}
 use Rattle.book.specs.Books.{Book, Laws}
 use Rattle.grants.specs.Regions.{form_of}
 use Rattle.grants.specs.Images.{image}
@@ -40,7 +41,7 @@ abbrev pub resident_plan : ℕ → Book → PlanMeaning
 resident_plan f b = record { terms = resident_terms f; entries = λ cs. image b (owners_after f cs) (selection_after cs) }
 
 -- The plan is as these calls leave it, and the laws of its book and of a plan hold.
-pub record ResidentStands {B : Type 0} {f : ℕ} (b : Book) (p : ResidentPlan B f) (cs : List PlanCall) : Type 0 where
+pub record ResidentStands {B : Type 0} {f : ℕ} {g : Ghosts B} (b : Book) (p : ResidentPlan B f g) (cs : List PlanCall) : Type 0 where
   pub book_laws : Laws b
   pub plan_laws : PlanLaws f b (resident_plan f b)
   pub owners : p.owners.cells ≡ owners_after f cs

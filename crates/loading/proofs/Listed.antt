@@ -1,6 +1,7 @@
 -- Lines of owners, one after the other.
 use Rattle.std.proofs.Common.{◌≡◌, ℕ, suc, ◌+◌, ◌%◌, ◌^◌, ◌<◌, List, [], ◌∷◌, ◌++◌, Some, Option, sym, refl, ap, ◌∙◌, subst, mod-eq_of_lt, add-one}
 use Rattle.std.specs.Option.{option_to_list}
+use Rattle.book.specs.declared.book.RuleBook.{Ghosts}
 use Rattle.book.specs.Books.{Book}
 use Rattle.grants.specs.Owners.{owner_at}
 use Rattle.grants.specs.Images.{byte_of, address_of}
@@ -34,5 +35,5 @@ unfolding switch_lines_below
 switches_more os n = ap (λ (m : ℕ). switch_lines_below os m) (sym (add-one n))
 
 -- A plan as calls leave it has owners that make sense.
-pub calls_stand : {B : Type 0} {f : ℕ} (b : Book) (p : ResidentPlan B f) (cs : List PlanCall) → ResidentStands b p cs → PlanStands b p
+pub calls_stand : {B : Type 0} {f : ℕ} {g : Ghosts B} (b : Book) (p : ResidentPlan B f g) (cs : List PlanCall) → ResidentStands b p cs → PlanStands b p
 calls_stand {f = f} b p cs st = record { resident = st.registers; placed = subst (Placed f) (sym st.owners) (agrees f cs).placed }

@@ -1,7 +1,7 @@
 -- What the deciding entry permits, and the answers of a check. Assumes nothing.
-use Rattle.std.proofs.Common.{◌≡◌, ℕ, ◌<◌, ◌≤◌, Bool, true, false, ltb, Some, None, Decides as Tells, MatchBool, Option, sym, refl, ◌∙◌, subst}
-use Rattle.std.proofs.lemmas.Bool.{lt-ltb, le-ltb}
-use Rattle.std.proofs.lemmas.Bool.Decides.{when_true, when_false}
+use Rattle.std.proofs.Common.{◌≡◌, ℕ, ◌<◌, Bool, true, Some, None, Decides as Tells, MatchBool, Option, sym, refl, ◌∙◌, subst}
+use Rattle.std.proofs.lemmas.Bool.{lt-ltb}
+use Rattle.std.proofs.lemmas.Bool.Decides.{when_true}
 use Rattle.access.specs.Cases.{Report}
 use Rattle.access.specs.Refusals.{stopped}
 use Rattle.access.specs.declared.access.Kind.{Kind}

@@ -1,13 +1,13 @@
 -- Writes of configuration bytes. Assumes nothing.
-use Rattle.std.proofs.Common.{◌≡◌, ℕ, zero, suc, ◌+◌, ◌-◌, ◌*◌, ◌/◌, ◌%◌, ◌^◌, ◌<◌, ◌≤◌, Bool, true, false, cond, not, ◌&&◌, T, eqb, ltb, ◌≢◌, ◌⊎◌, List, [], ◌∷◌, get_or, sym, refl, ap, ◌∙◌, subst, inl, inr, ⊎_elim, arith, eqb→eq}
+use Rattle.std.proofs.Common.{◌≡◌, ℕ, zero, suc, ◌+◌, ◌-◌, ◌/◌, ◌%◌, ◌^◌, ◌<◌, ◌≤◌, Bool, true, false, cond, not, ◌&&◌, eqb, ltb, ◌≢◌, [], ◌∷◌, get_or, sym, refl, ap, ◌∙◌, subst, ⊎_elim, arith, eqb→eq}
 use mathlib.Core.Path.{fun_ext}
 use lib.Bits.{bit_and}
-use Rattle.std.proofs.lemmas.Bool.{cases_eq, cases_lt, cond-true, cond-false, eq-eqb, ne_eqb, lt-ltb, le-ltb, and_left, and_right, and_from}
+use Rattle.std.proofs.lemmas.Bool.{cases_eq, cases_lt, cond-true, cond-false, lt-ltb, le-ltb, and_left, and_right, and_from}
 use Rattle.book.specs.Books.{Book}
 use Rattle.book.specs.Bits.{without_reserved}
 use Rattle.table.specs.Registers.{Registers, put, with_config_at}
 use Rattle.table.specs.RegisterCalls.{kept_byte, bytes_written}
-use Rattle.book.specs.Computed.{below, at_below}
+use Rattle.book.specs.Computed.{at_below}
 use Rattle.table.proofs.EntryLists.{put_at, put_other}
 
 mask_test : ℕ → Bool

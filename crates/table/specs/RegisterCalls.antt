@@ -1,5 +1,5 @@
 -- What reads and writes of registers answer. Assumes nothing.
-use Rattle.std.specs.Prelude.{◌≡◌, ℕ, zero, suc, ◌+◌, ◌-◌, ◌*◌, ◌/◌, ◌%◌, ◌^◌, ◌<◌, Bool, cond, not, ◌&&◌, [], ◌∷◌, Option, nat_lt}
+use Rattle.std.specs.Prelude.{◌≡◌, ℕ, zero, suc, ◌+◌, ◌-◌, ◌*◌, ◌/◌, ◌%◌, ◌^◌, ◌<◌, cond, not, ◌&&◌, [], ◌∷◌, Option, nat_lt}
 use Rattle.access.specs.Cases.{Report, refused, first_of}
 use Rattle.book.specs.Bits.{bit, without_reserved}
 use Rattle.book.specs.Books.{Book}

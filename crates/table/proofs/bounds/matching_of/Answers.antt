@@ -1,4 +1,4 @@
-use Rattle.std.proofs.Common.{◌≡◌, ◌/◌, ◌^◌, sym, ap, ◌∙◌, arith}
+use Rattle.std.proofs.Common.{◌≡◌, ◌/◌, ◌^◌, sym, ap, arith}
 use Rattle.std.proofs.lemmas.Nat.{and_mask}
 use Rattle.book.specs.Bits.{a_field}
 use Rattle.table.specs.Bounds.{matching_at}

@@ -1,4 +1,4 @@
-use Rattle.std.proofs.Common.{◌≡◌, ℕ, ap, ◌∙◌, mod-eq_of_lt}
+use Rattle.std.proofs.Common.{◌≡◌, ◌∙◌, mod-eq_of_lt}
 use Rattle.table.specs.Bounds.{resolved, matching_of}
 use Rattle.table.proofs.writes.refresh.Goals as goal
 

@@ -8,5 +8,5 @@ returns g c =
     let n = g.B.Memory.meaning c.args.second in
     record {
       held = (refl, refl);
-      pair = pair_of g.row.F m n c.args.-bits.fits (g.A.Memory.lawful c.args.first) (g.B.Memory.lawful c.args.second);
+      pair = pair_of g.row.F m n c.args._bits.fits (g.A.Memory.lawful c.args.first) (g.B.Memory.lawful c.args.second);
     }

@@ -1,4 +1,4 @@
-use Rattle.std.proofs.Common.{◌≡◌, ◌+◌, ◌*◌, ◌^◌, sym, refl, ◌∙◌, subst, rules}
+use Rattle.std.proofs.Common.{◌+◌, ◌*◌, ◌^◌, sym, refl, ◌∙◌, subst, rules}
 use Rattle.table.specs.Registers.{AllLegal, with_switch}
 use Rattle.table.specs.Tables.{regs}
 use Rattle.table.specs.Contexts.{words_of}

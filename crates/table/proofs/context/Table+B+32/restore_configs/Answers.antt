@@ -1,4 +1,4 @@
-use Rattle.std.proofs.Common.{◌≡◌, ℕ, ◌+◌, ◌*◌, ap, ◌∙◌, arith}
+use Rattle.std.proofs.Common.{◌≡◌, ℕ, ◌*◌, ap, ◌∙◌, arith}
 use Rattle.table.specs.RegisterCalls.{bytes_written}
 use Rattle.table.specs.Contexts.{restored_to, words_of}
 use Rattle.table.proofs.Contexts.{config_more}

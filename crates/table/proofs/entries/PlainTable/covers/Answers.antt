@@ -1,4 +1,4 @@
-use Rattle.std.proofs.Common.{ℕ, Bool, Decides as Tells, subst₂}
+use Rattle.std.proofs.Common.{ℕ, Decides as Tells, subst₂}
 use Rattle.table.specs.Checks.{EveryByte}
 use Rattle.table.proofs.entries.PlainTable.covers.Goals as goal
 

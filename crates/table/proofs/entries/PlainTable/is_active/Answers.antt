@@ -1,4 +1,4 @@
-use Rattle.std.proofs.Common.{ℕ, ◌/◌, ◌%◌, ◌^◌, Bool, not, ◌&&◌, eqb, get_or, ap₂}
+use Rattle.std.proofs.Common.{ℕ, ◌/◌, ◌^◌, not, ◌&&◌, eqb, ap₂}
 use Rattle.table.specs.Entries.{entry_at}
 use Rattle.std.proofs.lemmas.Nat.{and_mask}
 use Rattle.table.proofs.entries.PlainTable.is_active.Goals as goal

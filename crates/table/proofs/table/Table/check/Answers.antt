@@ -1,11 +1,11 @@
-use Rattle.std.proofs.Common.{◌≡◌, ℕ, [], ◌∷◌, Some, Err, Result, sym, refl, ap, ◌∙◌, subst}
+use Rattle.std.proofs.Common.{ℕ, [], ◌∷◌, Some, sym, refl, ap, ◌∙◌, subst}
 use Rattle.std.proofs.lemmas.Result.{err_from_is_err_and}
 use Rattle.std.proofs.lemmas.Bool.{both_ways}
 use Rattle.access.specs.Formed.{ill_formed}
-use Rattle.access.specs.Refusals.{report_of, stopped, table_cause}
+use Rattle.access.specs.Refusals.{report_of}
 use Rattle.access.specs.declared.access.Mode.{Mode}
 use Rattle.access.specs.declared.refusal.Refusal.{Refusal}
-use Rattle.access.specs.Cases.{Report, refused}
+use Rattle.access.specs.Cases.{refused}
 use Rattle.table.specs.Checks.{Checked, Passes, RefusedAs}
 use Rattle.table.specs.Tables.{regs}
 use Rattle.table.proofs.Permits.{passes_with, refused_as, stopped_as, decided_pass, decided_stop}

@@ -1,4 +1,4 @@
-use Rattle.std.proofs.Common.{ℕ, sym, ap, ◌∙◌, rules}
+use Rattle.std.proofs.Common.{sym, ap, ◌∙◌, rules}
 use Rattle.table.specs.Entries.{registers}
 use Rattle.table.specs.Registers.{with_config_at}
 use Rattle.table.proofs.RegisterBytes.{masked, kept_new, kept_old, with_config_self}

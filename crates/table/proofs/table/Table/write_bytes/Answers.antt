@@ -1,4 +1,4 @@
-use Rattle.std.proofs.Common.{ℕ, ◌+◌, ◌*◌, List, get_or, ap, ◌∙◌, arith}
+use Rattle.std.proofs.Common.{ℕ, ◌+◌, List, get_or, ap, ◌∙◌, arith}
 use Rattle.table.specs.Entries.{registers}
 use Rattle.table.specs.Registers.{with_config_at}
 use Rattle.table.specs.RegisterCalls.{kept_byte}

@@ -1,4 +1,4 @@
-use Rattle.std.proofs.Common.{◌≡◌, ℕ, ◌^◌, ◌<◌, sym, ◌∙◌, subst, mod-lt, arith, lit<, pow_pos, rules}
+use Rattle.std.proofs.Common.{ℕ, ◌^◌, ◌<◌, sym, ◌∙◌, subst, mod-lt, arith, lit<, pow_pos, rules}
 use Rattle.table.specs.Registers.{AllLegal, with_address_at}
 use Rattle.table.specs.Tables.{regs}
 use Rattle.table.proofs.Legality.{entry_legal}
