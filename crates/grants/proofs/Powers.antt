@@ -1,5 +1,5 @@
 -- Powers of two: a number with one bit set is one, and the other way round. Assumes nothing.
-use Rattle.std.proofs.Common.{◌≡◌, ℕ, zero, suc, ◌+◌, ◌-◌, ◌*◌, ◌/◌, ◌%◌, ◌^◌, ◌<◌, true, eqb, ◌⊎◌, sym, ap, ◌∙◌, inl, inr, ⊎_elim, add-zero, one-mul, pow-suc, arith}
+use Rattle.std.proofs.Common.{◌≡◌, ℕ, zero, suc, ◌+◌, ◌*◌, ◌/◌, ◌%◌, ◌^◌, ◌<◌, true, eqb, ◌⊎◌, sym, ap, ◌∙◌, inl, inr, ⊎_elim, add-zero, one-mul, pow-suc, arith}
 use lib.Count.{ones, ones_in, ones_step, ones_cat}
 use Rattle.std.proofs.lemmas.Nat.{pow_pos}
 use Rattle.std.proofs.lemmas.Bool.{cases_eq, cases_Bool, eq-eqb, eqb-true, eqb-false, or_cases, or_left, or_right}

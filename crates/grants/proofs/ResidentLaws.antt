@@ -1,5 +1,5 @@
 -- The plan whose regions stay in their entries keeps the laws of a plan. Assumes nothing.
-use Rattle.std.proofs.Common.{◌≡◌, ℕ, suc, ◌<◌, true, not, ◌&&◌, List, [], ◌∷◌, Some, None, Option, sym, refl, ap, ◌∙◌, subst, lit<}
+use Rattle.std.proofs.Common.{◌≡◌, ℕ, suc, true, not, ◌&&◌, List, [], ◌∷◌, Some, None, Option, sym, refl, ap, ◌∙◌, subst, lit<}
 use Rattle.access.specs.Cases.{Report}
 use Rattle.book.specs.Books.{Book, Laws}
 use Rattle.table.specs.Registers.{Registers}

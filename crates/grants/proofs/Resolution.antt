@@ -1,5 +1,5 @@
 -- The entry that a region takes resolves back to the region. Assumes nothing.
-use Rattle.std.proofs.Common.{◌≡◌, ℕ, zero, suc, ◌+◌, ◌-◌, ◌*◌, ◌/◌, ◌%◌, ◌^◌, ◌<◌, ◌≤◌, Bool, true, cond, not, ◌&&◌, eqb, leb, ◌⊎◌, sym, refl, ap, ◌∙◌, ⊎_elim, mul_assoc, add-mul, pow-suc, arith}
+use Rattle.std.proofs.Common.{◌≡◌, ℕ, zero, suc, ◌+◌, ◌-◌, ◌*◌, ◌/◌, ◌%◌, ◌^◌, ◌<◌, ◌≤◌, Bool, true, cond, not, ◌&&◌, eqb, leb, sym, refl, ap, ◌∙◌, ⊎_elim, mul_assoc, add-mul, pow-suc, arith}
 use Rattle.std.proofs.lemmas.Nat.{pow_pos, pow-add, pow_below, div-mul-add, div-add-mod'}
 use Rattle.std.proofs.lemmas.Bool.{cases_Bool, cases_lt, and_parts, eqb-true, eqb-false, leb-true, not-true, cond-true, cond-false}
 use Rattle.table.specs.Bounds.{resolved, trailing_ones, napot_first, matching_at}

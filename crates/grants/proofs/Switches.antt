@@ -1,5 +1,5 @@
 -- The switch bits as one number. Assumes nothing.
-use Rattle.std.proofs.Common.{◌≡◌, ℕ, zero, suc, ◌+◌, ◌-◌, ◌*◌, ◌/◌, ◌%◌, ◌^◌, ◌<◌, Bool, true, false, cond, eqb, ◌⊎◌, sym, refl, ap, ◌∙◌, subst, ⊎_elim, add-mul, one-mul, pow-suc, add-one, arith}
+use Rattle.std.proofs.Common.{◌≡◌, ℕ, zero, suc, ◌+◌, ◌-◌, ◌*◌, ◌/◌, ◌%◌, ◌^◌, ◌<◌, Bool, true, false, cond, eqb, sym, refl, ap, ◌∙◌, subst, ⊎_elim, add-mul, one-mul, pow-suc, add-one, arith}
 use lib.Bits.{bit_or}
 use Rattle.std.proofs.lemmas.Nat.{pow_pos, pow-add, one_shl, or_shifted, or_comm, div-mul-add, mod_below, shr_split, shr_high}
 use Rattle.std.proofs.lemmas.Bool.{cases_eq, cond-true, cond-false, cond_both}

@@ -1,5 +1,5 @@
 -- Calls for another task leave the switch bits of the selection as they were. Assumes nothing.
-use Rattle.std.proofs.Common.{◌≡◌, ℕ, suc, ◌<◌, Bool, false, eqb, List, Some, None, Option, sym, refl, ap, ◌∙◌, ⊎_elim, arith}
+use Rattle.std.proofs.Common.{◌≡◌, ℕ, suc, Bool, false, eqb, List, Some, None, Option, sym, refl, ap, ◌∙◌, ⊎_elim, arith}
 use Rattle.std.proofs.lemmas.Bool.{ne_eqb}
 use Rattle.access.specs.Cases.{Report}
 use Rattle.grants.specs.Owners.{owner_at, found_at, vacated}
@@ -10,7 +10,7 @@ use Rattle.grants.specs.Resolving.{Placed, OthersUntouched}
 use Rattle.grants.specs.declared.region.Region.{Region}
 use Rattle.grants.specs.declared.region.Form.TheVariants.{Pair}
 use Rattle.grants.specs.declared.owner.Owner.{Owner}
-use Rattle.grants.specs.declared.owner.Owner.TheVariants.{Free, Lower, Upper}
+use Rattle.grants.specs.declared.owner.Owner.TheVariants.{Lower}
 use Rattle.grants.proofs.Switches.{bits_alike}
 use Rattle.grants.proofs.Answering.{after_refused}
 use Rattle.grants.proofs.Taking.{Taken, FormOf, grant_taken}
