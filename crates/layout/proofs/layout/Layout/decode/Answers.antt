@@ -34,7 +34,7 @@ invariant_of-result c =
     let T = c.in_ok-tasks.ensures.answer in
     let R = c.in_ok-regions.ensures.answer in
     let none = rw (← T.1) at T.0 in
-    (consecutive _ _ none, (all_shared _ _ none ∙ sym (ap length (R.1 ∙ ap regions_of (region_part_lem s)) ∙ region_count_lem s), tt))
+    record { consecutive = consecutive _ _ none; shared = all_shared _ _ none ∙ sym (ap length (R.1 ∙ ap regions_of (region_part_lem s)) ∙ region_count_lem s) }
 
 pub returns : goal.returns
 returns c =
