@@ -1,5 +1,5 @@
 -- The bytes of a well-formed layout are accepted. Assumes nothing.
-use Rattle.std.proofs.Common.{◌≡◌, ℕ, zero, suc, ◌+◌, ◌*◌, ◌/◌, ◌%◌, ◌^◌, ◌<◌, ◌≤◌, List, [], ◌∷◌, ◌++◌, length, get_or, take, drop, None, sym, refl, ap, ◌∙◌, mod-eq_of_lt, arith, length-append}
+use Rattle.std.proofs.Common.{◌≡◌, ℕ, suc, ◌+◌, ◌*◌, ◌/◌, ◌%◌, ◌^◌, ◌<◌, ◌≤◌, List, [], ◌∷◌, ◌++◌, length, get_or, take, drop, None, sym, refl, ap, ◌∙◌, mod-eq_of_lt, arith, length-append}
 use native.Mathlib.Nat.{div-div-eq-div-mul, mod-add-div'}
 use Rattle.std.specs.List.{flat_map}
 use Rattle.std.proofs.lemmas.List.{take_at, drop_at, drop-drop}
@@ -8,12 +8,12 @@ use Rattle.access.specs.Cases.{first_of}
 use Rattle.layout.specs.Words.{le32, word}
 use Rattle.layout.specs.Records.{task_at, region_at, tasks_of, regions_of, fourths_of, task_part, region_part}
 use Rattle.layout.specs.Encoding.{task_bytes, region_bytes, encoded}
-use Rattle.layout.specs.Faults.{file_length, shape_cases, task_cases, region_cases}
-use Rattle.layout.specs.Partition.{region_count, Consecutive}
+use Rattle.layout.specs.Faults.{file_length, task_cases, region_cases}
+use Rattle.layout.specs.Partition.{region_count}
 use Rattle.layout.specs.Acceptance.{RegionsFit, WellFormed, Accepts}
 use Rattle.layout.specs.declared.records.TaskRecord.{TaskRecord}
 use Rattle.layout.specs.declared.records.RegionRecord.{RegionRecord}
-use Rattle.layout.proofs.Reading.{tasks_more, tasks_none, regions_more, regions_none, fourths_more, fourths_none}
+use Rattle.layout.proofs.Reading.{tasks_more, regions_more, fourths_more}
 use Rattle.layout.proofs.Whole.{Headed, no_fault}
 
 word_back : (w : ℕ) → w < 2 ^ 32 → le32 (w % 256) (w / 256 % 256) (w / 65536 % 256) (w / 16777216 % 256) ≡ w

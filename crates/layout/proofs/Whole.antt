@@ -1,12 +1,12 @@
 -- A file whose header is sound: its parts, its first fault, its bytes. Assumes nothing.
-use Rattle.std.proofs.Common.{◌≡◌, ℕ, zero, suc, ◌+◌, ◌-◌, ◌*◌, ◌/◌, ◌%◌, ◌≤◌, min, Bool, false, ltb, List, [], ◌∷◌, ◌++◌, length, take, drop, None, Option, sym, refl, ap, ◌∙◌, arith, length-drop, length-take}
+use Rattle.std.proofs.Common.{◌≡◌, ℕ, zero, suc, ◌+◌, ◌-◌, ◌*◌, ◌/◌, ◌%◌, ◌≤◌, Bool, false, ltb, List, ◌++◌, length, take, drop, None, Option, sym, refl, ap, ◌∙◌, arith, length-drop, length-take}
 use Rattle.std.specs.List.{flat_map}
 use Rattle.std.proofs.lemmas.List.{take_rest, drop-drop, take-append-drop}
 use Rattle.std.proofs.lemmas.Bool.Decides.{nat_tests}
 use Rattle.access.specs.Cases.{Report, first_of}
 use Rattle.layout.specs.Words.{word, word_bytes}
 use Rattle.layout.specs.Records.{records, task_part, region_part, tasks_of, regions_of, fourths_of, file_tasks, file_regions}
-use Rattle.layout.specs.Encoding.{task_bytes, region_bytes, header_bytes, encoded}
+use Rattle.layout.specs.Encoding.{task_bytes, region_bytes, encoded}
 use Rattle.layout.specs.Faults.{file_length, shape_cases, task_cases, region_cases, layout_fault}
 use Rattle.layout.specs.Refusals.{Tells}
 use Rattle.layout.specs.declared.records.TaskRecord.{TaskRecord}

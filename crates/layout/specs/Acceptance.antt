@@ -1,5 +1,5 @@
 -- The layouts that files can hold, each of which is accepted. Assumes nothing.
-use Rattle.std.specs.Prelude.{◌≡◌, ℕ, ◌^◌, ◌<◌, ◌≤◌, List, [], ◌∷◌, length, None}
+use Rattle.std.specs.Prelude.{◌≡◌, ◌^◌, ◌<◌, ◌≤◌, List, [], ◌∷◌, length, None}
 use Rattle.layout.specs.Records.{file_tasks, file_regions}
 use Rattle.layout.specs.Encoding.{encoded}
 use Rattle.layout.specs.Faults.{layout_fault}

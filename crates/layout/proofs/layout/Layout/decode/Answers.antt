@@ -1,7 +1,7 @@
-use Rattle.std.proofs.Common.{◌≡◌, length, vec_items, sym, ap, ◌∙◌, arith}
+use Rattle.std.proofs.Common.{length, sym, ap, ◌∙◌, arith}
 use Rattle.std.proofs.lemmas.Bool.Decides.{nat_tests}
 use Rattle.std.proofs.lemmas.Result.{err_from_is_err_and}
-use Rattle.layout.specs.Records.{file_tasks, file_regions, tasks_of, regions_of}
+use Rattle.layout.specs.Records.{tasks_of, regions_of}
 use Rattle.layout.proofs.Accepting.{accepted}
 use Rattle.layout.proofs.Parting.{consecutive, all_shared}
 use Rattle.layout.proofs.Whole.{headed, tells_shape, task_part_lem, region_part_lem, region_count_lem, tells_tasks, tells_regions, no_fault, encodes}
