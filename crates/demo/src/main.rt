@@ -1,13 +1,10 @@
-// A register table, memories, a hart with its tasks, and runs at work, from the first register write to the last answer.
+// A register table, tasks and memories at work, from the first register write to the last stored byte.
 #![tactic(auto)]
 
-mod calls;
 mod memories;
 mod request;
-mod runs;
-mod session;
 mod show;
-mod windows;
+mod tasks;
 
 use access::access::Kind;
 use access::field_bits::FieldBits;
@@ -15,11 +12,10 @@ use book::guest_book::GuestBook;
 use book::spmp_book::SpmpBook;
 use memories::memories;
 use request::Request;
-use runs::runs;
-use session::session;
 use show::{judge, note, read_back, set_address, set_config, set_switch, tell};
 use std::io;
 use table::table::Table;
+use tasks::tasks;
 
 type SpmpTable = Table<SpmpBook, 32>;
 
@@ -129,7 +125,7 @@ fn guests(rt: &HostRuntime) -> io::Result<()> {
     )
 }
 
-fn main(rt: HostRuntime) -> anyhow::Result<()> {
+fn main(rt: HostRuntime) -> io::Result<()> {
     let mut table: SpmpTable = Table::new(FieldBits::rv32());
     set_up(&rt, &mut table)?;
     judge_modes(&rt, &table)?;
@@ -137,7 +133,6 @@ fn main(rt: HostRuntime) -> anyhow::Result<()> {
     keep_legal(&rt, &mut table)?;
     save_and_restore(&rt, &table)?;
     guests(&rt)?;
-    memories(&rt)?;
-    session(&rt)?;
-    runs(&rt)
+    tasks(&rt)?;
+    memories(&rt)
 }

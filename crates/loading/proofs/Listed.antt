@@ -1,5 +1,5 @@
 -- Lines of owners, one after the other.
-use Rattle.std.proofs.Common.{◌≡◌, ℕ, suc, ◌+◌, ◌%◌, ◌^◌, ◌<◌, List, [], ◌∷◌, ◌++◌, Some, Option, sym, refl, ap, ◌∙◌, subst, mod-eq_of_lt, add-one}
+use Rattle.std.proofs.Common.{◌≡◌, ℕ, ◌+◌, ◌%◌, ◌^◌, ◌<◌, List, [], ◌∷◌, ◌++◌, Some, Option, sym, ap, ◌∙◌, subst, mod-eq_of_lt, add-one}
 use Rattle.std.specs.Option.{option_to_list}
 use Rattle.book.specs.declared.book.RuleBook.{Ghosts}
 use Rattle.book.specs.Books.{Book}

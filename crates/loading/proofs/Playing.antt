@@ -1,11 +1,8 @@
 -- Grants made one after the other, step by step.
-use Rattle.std.proofs.Common.{◌≡◌, ℕ, ◌+◌, ◌<◌, ◌≤◌, List, [], ◌∷◌, ◌++◌, length, get_or, take, drop, Some, None, Option, sym, refl, ap, ◌∙◌, add-zero, add_assoc}
-use Rattle.std.proofs.lemmas.List.{drop_more, drop_all}
+use Rattle.std.proofs.Common.{◌≡◌, ℕ, List, [], ◌∷◌, ◌++◌, Some, None, Option, refl, ap, ◌∙◌}
 use Rattle.grants.specs.Plans.{PlanTerms, answer_after}
 use Rattle.grants.specs.declared.call.PlanCall.{PlanCall}
-use Rattle.layout.specs.declared.records.TaskRecord.{TaskRecord}
-use Rattle.layout.specs.declared.records.RegionRecord.{RegionRecord}
-use Rattle.loading.specs.Grants.{LayoutGrant, grant_of, task_grants, grants_from}
+use Rattle.loading.specs.Grants.{LayoutGrant}
 use Rattle.loading.specs.Played.{Outcome, RefusedGrant, refused_by, gone_on, played}
 
 module _ (f : ℕ) (p : PlanTerms) where

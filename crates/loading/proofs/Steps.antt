@@ -1,5 +1,5 @@
 -- A turn of a loop over a layout's grants.
-use Rattle.std.proofs.Common.{◌≡◌, ℕ, ◌+◌, ◌<◌, ◌≤◌, List, [], ◌∷◌, length, get_or, drop, Some, None, ap, ◌∙◌}
+use Rattle.std.proofs.Common.{◌≡◌, ℕ, ◌+◌, ◌<◌, ◌≤◌, List, ◌∷◌, length, get_or, drop, Some, None, ap, ◌∙◌}
 use Rattle.grants.specs.Plans.{PlanTerms}
 use Rattle.grants.specs.declared.call.PlanCall.{PlanCall}
 use Rattle.layout.specs.declared.records.TaskRecord.{TaskRecord}

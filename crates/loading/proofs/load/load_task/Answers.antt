@@ -1,4 +1,4 @@
-use Rattle.std.proofs.Common.{◌≡◌, ℕ, List, sym, ap, ◌∙◌, subst, add-zero}
+use Rattle.std.proofs.Common.{ℕ, List, sym, ap, ◌∙◌, subst, add-zero}
 use Rattle.std.proofs.lemmas.Result.{err_from_is_err_and}
 use Rattle.grants.specs.declared.call.PlanCall.{PlanCall}
 use Rattle.loading.specs.Grants.{task_grants}
