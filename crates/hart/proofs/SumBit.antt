@@ -4,8 +4,7 @@ use native.Mathlib.Nat.{div-eq_of_lt, mod-mod}
 use lib.Bits.{bit_and, bit_or, or_add_and, and_high, and_block, and_mask, and_zero_l, or_zero_r, and_shr, or_shr, and_mod, or_mod}
 use Rattle.std.proofs.lemmas.Nat.{shr_split}
 use Rattle.std.proofs.lemmas.Bool.{cases_lt, eqb-true, eq-eqb, ne_eqb}
-use Rattle.book.specs.Bits.{bit}
-use Rattle.book.specs.Computed.{below, at_below}
+use Rattle.book.specs.Computed.{at_below}
 use Rattle.hart.specs.Status.{sum_of, with_sum, SumAlone}
 
 -- SUM as a mask, and every other bit of 32 as a mask

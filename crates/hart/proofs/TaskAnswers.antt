@@ -1,5 +1,5 @@
 -- What the answer to an access says of the selected task, and of no task. Assumes nothing.
-use Rattle.std.proofs.Common.{◌≡◌, ℕ, Bool, List, Ok, Err, Result, inl, inr}
+use Rattle.std.proofs.Common.{ℕ, Bool, List, Ok, Err, Result, inl, inr}
 use Rattle.std.proofs.lemmas.Bool.{both_ways}
 use Rattle.access.specs.declared.access.Kind.{Kind}
 use Rattle.access.specs.declared.access.Mode.TheVariants.{User}

@@ -1,5 +1,5 @@
 -- Before a selection no access of user mode passes, and one that is well formed is stopped with no entry deciding. Assumes nothing.
-use Rattle.std.proofs.Common.{◌≡◌, ℕ, ◌+◌, ◌<◌, ◌≤◌, Bool, true, false, not, ltb, List, [], ◌∷◌, Some, None, Ok, Err, Option, sym, refl, ap, ◌∙◌, subst, ⊎_elim, arith}
+use Rattle.std.proofs.Common.{◌≡◌, ℕ, ◌+◌, ◌<◌, ◌≤◌, Bool, true, false, not, List, [], ◌∷◌, Some, None, Ok, Err, Option, ap, ◌∙◌, subst, ⊎_elim, arith}
 use Rattle.std.proofs.lemmas.Bool.{cases_lt, le-ltb, both_ways}
 use Rattle.std.proofs.lemmas.Bool.Decides.{when_false}
 use Rattle.access.specs.Cases.{Report, refused, first_of}
@@ -10,7 +10,7 @@ use Rattle.access.specs.declared.access.Mode.TheVariants.{User}
 use Rattle.access.specs.declared.refusal.Refusal.{Refusal}
 use Rattle.book.specs.Books.{Book, Laws}
 use Rattle.table.specs.Registers.{Registers, bounds_at}
-use Rattle.table.specs.Checks.{EveryByte, active, Deciding, Passes, PassesWith, RefusedAs, Checked}
+use Rattle.table.specs.Checks.{EveryByte, active, Deciding, PassesWith, RefusedAs, Checked}
 use Rattle.grants.specs.Plans.{PlanMeaning, PlanLaws, ShownFor, held_after, selected_after}
 use Rattle.grants.specs.declared.call.PlanCall.{PlanCall}
 

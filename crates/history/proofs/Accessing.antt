@@ -1,7 +1,7 @@
 -- The answer to an access: that it passes or is refused, and that there is one.
-use Rattle.std.proofs.Common.{◌≡◌, ℕ, Bool, true, false, ◌⊎◌, List, [], ◌∷◌, Ok, Err, Result, sym, refl, ap, ◌∙◌, subst, inl, inr, ⊎_elim, arith}
+use Rattle.std.proofs.Common.{◌≡◌, ℕ, Bool, true, ◌⊎◌, Ok, Err, Result, sym, refl, ap, ◌∙◌, subst, inl, inr, ⊎_elim}
 use Rattle.std.proofs.lemmas.Bool.{false≢true, true≢false}
-use Rattle.access.specs.Refusals.{report_of, not_admitted}
+use Rattle.access.specs.Refusals.{not_admitted}
 use Rattle.access.specs.declared.access.Kind.{Kind}
 use Rattle.access.specs.declared.access.Mode.{Mode}
 use Rattle.access.specs.declared.refusal.Refusal.{Refusal}
@@ -11,7 +11,7 @@ use Rattle.table.specs.Registers.{Registers}
 use Rattle.table.specs.Checks.{Checked}
 use Rattle.table.proofs.Verdicts.{one_answer}
 use Rattle.memory.specs.Meaning.{MemoryMeaning}
-use Rattle.hart.specs.Accesses.{AccessPasses, MemoryRefuses, AccessRefused}
+use Rattle.hart.specs.Accesses.{AccessPasses, AccessRefused}
 use Rattle.history.specs.declared.call.Access.{Access}
 use Rattle.history.specs.declared.call.Access.TheVariants.{Load, Store, Fetch}
 use Rattle.history.specs.declared.call.Answer.{Answer}

@@ -1,5 +1,5 @@
 -- A task access passes exactly when the entered task is entitled to it.
-use Rattle.std.proofs.Common.{◌≡◌, ℕ, ◌+◌, ◌≤◌, Bool, true, false, cond, ◌⊎◌, ◌↔◌, List, ◌∷◌, ◌++◌, Some, None, Ok, Err, Option, sym, refl, ap, ◌∙◌, subst, inl, inr, ⊎_elim}
+use Rattle.std.proofs.Common.{◌≡◌, ℕ, Bool, true, false, cond, Some, None, Ok, Err, Option, sym, refl, ap, ◌∙◌, subst, ⊎_elim}
 use Rattle.std.proofs.lemmas.Bool.{true≢false}
 use Rattle.access.specs.Formed.{WellFormed}
 use Rattle.access.specs.declared.access.Kind.{Kind}
@@ -7,20 +7,16 @@ use Rattle.access.specs.declared.access.Mode.{Mode}
 use Rattle.book.specs.Books.{Book, Laws}
 use Rattle.table.specs.Checks.{Checked}
 use Rattle.memory.specs.Meaning.{MemoryMeaning}
-use Rattle.grants.specs.Passing as grants
-use Rattle.grants.specs.Plans.{PlanMeaning, PlanLaws, held_after, selected_after}
+use Rattle.grants.specs.Plans.{PlanMeaning, PlanLaws}
 use Rattle.grants.specs.declared.region.Region.{Region}
 use Rattle.grants.proofs.Passing.{task_accesses}
 use Rattle.hart.proofs.Unselected.{unselected_passes}
-use Rattle.history.specs.declared.call.Access.{Access}
 use Rattle.history.specs.declared.call.Call.{Call}
-use Rattle.history.specs.declared.call.Answer.{Answer}
-use Rattle.history.specs.declared.call.Event.{Event}
 use Rattle.history.specs.Accesses.{kind_of, address_of, width_of}
 use Rattle.history.specs.Answers.{passed}
-use Rattle.history.specs.Histories.{History, in_user, allowed, selected, entered, Holds, Covers, right_for}
+use Rattle.history.specs.Histories.{History, in_user, allowed, selected, Holds, Covers, right_for}
 use Rattle.history.specs.Runs.{Run, Answers, Accessed, plan_calls, memory_after}
-use Rattle.history.specs.Isolation.{Entitled, PassWhenEntitled}
+use Rattle.history.specs.Isolation.{PassWhenEntitled}
 use Rattle.history.proofs.Planning.{selected_planned, holds_planned}
 use Rattle.history.proofs.Accessing.{given_passed, accessed_cases, accessed_passed}
 use Rattle.history.proofs.Points.{run_at, task_in_user, entered_selected}

@@ -1,5 +1,5 @@
 -- Points in a history, and what a task access leaves as it was.
-use Rattle.std.proofs.Common.{◌≡◌, ℕ, Bool, true, false, cond, ◌&&◌, List, [], ◌∷◌, ◌++◌, Some, None, Option, sym, refl, ap, ◌∙◌, subst, inl, inr}
+use Rattle.std.proofs.Common.{◌≡◌, ℕ, Bool, true, false, cond, List, [], ◌∷◌, ◌++◌, Some, None, Option, sym, refl, ap, ◌∙◌, subst, inl}
 use Rattle.std.proofs.lemmas.Bool.{false≢true, and_parts, eqb-true}
 use Rattle.access.specs.declared.access.Kind.{Kind}
 use Rattle.book.specs.Books.{Book}
@@ -12,7 +12,7 @@ use Rattle.history.specs.declared.call.Call.{Call}
 use Rattle.history.specs.declared.call.Call.TheVariants.{Plan, Supervisor, Enter, Trap, Task}
 use Rattle.history.specs.declared.call.Event.{Event}
 use Rattle.history.specs.Accesses.{kind_of, address_of, width_of, stores_at}
-use Rattle.history.specs.Histories.{History, in_user, allowed, state_with, selected, entered, is_task, is_the, access_by, HoldsByte, EverHolds}
+use Rattle.history.specs.Histories.{History, allowed, state_with, entered, is_task, is_the, access_by, HoldsByte, EverHolds}
 use Rattle.history.specs.Runs.{Run, Follows, with_plan_call}
 use Rattle.memory.specs.Effects.{covers}
 

@@ -1,13 +1,11 @@
 -- Two runs that are alike in all but one task's accesses stay alike, but for the bytes that this task may store.
-use Rattle.std.proofs.Common.{◌≡◌, ℕ, ◌+◌, ◌<◌, ◌≤◌, Bool, true, false, cond, ◌&&◌, ltb, leb, ◌≢◌, ◌⊎◌, List, [], ◌∷◌, ◌++◌, Some, None, Option, sym, refl, ap, ◌∙◌, subst, inl, inr, ⊎_elim, arith}
+use Rattle.std.proofs.Common.{◌≡◌, ℕ, ◌+◌, ◌<◌, ◌≤◌, Bool, true, false, cond, ◌&&◌, ltb, leb, ◌≢◌, ◌⊎◌, List, [], ◌∷◌, Some, None, sym, refl, ap, ◌∙◌, subst, inl, inr, ⊎_elim, arith}
 use mathlib.Core.List.{cons-ne-nil, head-eq_of_cons-eq, tail-eq_of_cons-eq}
 use Rattle.std.proofs.lemmas.Bool.{cases_Bool, and_parts, leb-true, ltb-true}
 use Rattle.access.specs.declared.access.Kind.{Kind}
 use Rattle.access.specs.declared.access.Mode.{Mode}
 use Rattle.book.specs.Books.{Book, Laws}
-use Rattle.table.specs.Registers.{Registers}
 use Rattle.memory.specs.Meaning.{MemoryMeaning, MemoryLaws}
-use Rattle.memory.specs.Effects.{covers, value_at}
 use Rattle.memory.proofs.Values.{value_same}
 use Rattle.grants.specs.Resolving.{In}
 use Rattle.grants.specs.Plans.{PlanMeaning, PlanLaws, held_after, selected_after}
@@ -27,7 +25,7 @@ use Rattle.history.specs.Isolation.{Separate, Separated, SameMeaning}
 use Rattle.history.proofs.Planning.{selected_planned, holds_planned}
 use Rattle.history.proofs.Accessing.{passed_same, accessed_same}
 use Rattle.history.proofs.Points.{task_call, task_plan, task_state, access_by_lem, entered_selected, one_task, stores_at_lem, now_ever}
-use Rattle.history.proofs.Passing.{Covered, checked_covered, pass_when_entitled}
+use Rattle.history.proofs.Passing.{checked_covered, pass_when_entitled}
 
 by_test : {C : Type 0} (t : Bool) → (t ≡ true → C) → (t ≡ false → C) → C
 by_test t f g = ⊎_elim f g (cases_Bool t)

@@ -1,11 +1,11 @@
 -- A passed load or fetch gives at each byte what the last passed store put there, else the starting byte.
-use Rattle.std.proofs.Common.{◌≡◌, ℕ, ◌+◌, ◌-◌, ◌/◌, ◌%◌, ◌^◌, ◌<◌, ◌≤◌, Bool, true, false, cond, ◌≢◌, List, [], ◌∷◌, ◌++◌, sym, refl, ap, ◌∙◌, subst, arith, lit<}
+use Rattle.std.proofs.Common.{◌≡◌, ℕ, ◌+◌, ◌%◌, ◌^◌, ◌<◌, ◌≤◌, Bool, true, false, cond, ◌≢◌, [], ◌∷◌, ◌++◌, refl, ap, ◌∙◌, subst, arith, lit<}
 use Rattle.std.proofs.lemmas.Bool.{cond_both}
 use Rattle.access.specs.declared.access.Kind.{Kind}
 use Rattle.access.specs.declared.access.Mode.{Mode}
 use Rattle.book.specs.Books.{Book}
 use Rattle.memory.specs.Meaning.{MemoryMeaning, MemoryLaws}
-use Rattle.memory.specs.Effects.{value_at, byte_of}
+use Rattle.memory.specs.Effects.{value_at}
 use Rattle.memory.proofs.Values.{value_same, value_below, byte_of_value}
 use Rattle.grants.specs.Plans.{PlanMeaning}
 use Rattle.history.specs.declared.call.Access.{Access}
@@ -15,10 +15,9 @@ use Rattle.history.specs.declared.call.Call.TheVariants.{Plan, Supervisor, Enter
 use Rattle.history.specs.declared.call.Answer.{Answer}
 use Rattle.history.specs.declared.call.Event.{Event}
 use Rattle.history.specs.Accesses.{kind_of, address_of, width_of, given, stored_byte}
-use Rattle.history.specs.Answers.{passed}
 use Rattle.history.specs.Histories.{History, puts, byte_of_call, Unstored, Makes}
 use Rattle.history.specs.Runs.{Run, Answers, Accessed, plan_calls, contents, memory_after}
-use Rattle.history.specs.Isolation.{LastStored, GiveLastStored}
+use Rattle.history.specs.Isolation.{GiveLastStored}
 use Rattle.history.proofs.Accessing.{accessed_passed}
 use Rattle.history.proofs.Points.{run_at}
 

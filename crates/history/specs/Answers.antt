@@ -1,5 +1,5 @@
 -- What an answer says: that the call passed, or the number of a refusal and the values that it carries. Assumes nothing.
-use Rattle.std.specs.Prelude.{ℕ, Bool, true, false, Some, None, Option}
+use Rattle.std.specs.Prelude.{ℕ, Bool, Some, None, Option}
 use Rattle.access.specs.Cases.{Report}
 use Rattle.access.specs.Refusals.{report_of}
 use Rattle.grants.specs.Refusals.{grant_report, is_none}

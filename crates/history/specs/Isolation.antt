@@ -1,5 +1,5 @@
 -- What every run shows: which task accesses pass, what loads and fetches give, and that what one task does cannot reach another. Assumes nothing.
-use Rattle.std.specs.Prelude.{◌≡◌, ℕ, ◌+◌, ◌^◌, ◌<◌, true, ◌≢◌, ◌⊎◌, ◌↔◌, List, ◌∷◌, ◌++◌, Some}
+use Rattle.std.specs.Prelude.{◌≡◌, ℕ, ◌+◌, ◌^◌, ◌<◌, true, ◌≢◌, ◌⊎◌, ◌↔◌, ◌∷◌, ◌++◌, Some}
 use Rattle.access.specs.Formed.{WellFormed}
 use Rattle.access.specs.declared.access.Kind.{Kind}
 use Rattle.book.specs.Books.{Book}

@@ -1,5 +1,5 @@
 -- A hart that makes a call stands at the run with that call.
-use Rattle.std.proofs.Common.{◌≡◌, ℕ, ◌+◌, ◌<◌, Bool, true, false, cond, List, [], ◌∷◌, ◌++◌, reverse, length, get_or, take, Some, None, Ok, Err, Option, Result, sym, refl, ap, ◌∙◌, subst, ap₂, subst₂, inl, inr}
+use Rattle.std.proofs.Common.{◌≡◌, ℕ, ◌+◌, ◌<◌, Bool, true, false, List, [], ◌∷◌, ◌++◌, reverse, length, get_or, take, Ok, Err, Option, Result, sym, refl, ap, ◌∙◌, subst, ap₂, subst₂}
 use mathlib.Core.List.{reverse-append}
 use Rattle.std.proofs.lemmas.List.{take_more}
 use Rattle.access.specs.Cases.{Report}
@@ -15,9 +15,8 @@ use Rattle.grants.specs.Plans.{PlanTerms, PlanMeaning, answer_after}
 use Rattle.grants.specs.declared.refusal.GrantRefusal.{GrantRefusal}
 use Rattle.grants.specs.declared.call.PlanCall.{PlanCall}
 use Rattle.hart.specs.Accesses.{AccessAnswer, after_store}
-use Rattle.history.specs.Accesses.{kind_of}
-use Rattle.history.specs.Histories.{History, allowed, in_user}
-use Rattle.history.specs.Runs.{PlanAnswered, Accessed, Answers, plan_calls, with_plan_call, memory_after}
+use Rattle.history.specs.Histories.{History, allowed}
+use Rattle.history.specs.Runs.{PlanAnswered, Accessed, plan_calls}
 use Rattle.history.specs.declared.call.Access.{Access}
 use Rattle.history.specs.declared.call.Access.TheVariants.{Load, Store, Fetch}
 use Rattle.history.specs.declared.call.Call.{Call}

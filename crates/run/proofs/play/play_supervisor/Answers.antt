@@ -1,5 +1,5 @@
 use Rattle.std.proofs.Common.{refl}
-use Rattle.run.proofs.Stepping.{at_plan, at_supervisor, at_enter}
+use Rattle.run.proofs.Stepping.{at_plan, at_supervisor}
 use Rattle.run.proofs.play.play_supervisor.Goals as goal
 
 pub returns-in-Plan : goal.returns-in-Plan

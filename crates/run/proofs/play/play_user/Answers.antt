@@ -1,5 +1,5 @@
 use Rattle.std.proofs.Common.{refl}
-use Rattle.run.proofs.Stepping.{at_task, at_trap}
+use Rattle.run.proofs.Stepping.{at_task}
 use Rattle.run.proofs.play.play_user.Goals as goal
 
 pub returns-in-Task : goal.returns-in-Task

@@ -1,4 +1,4 @@
-use Rattle.std.proofs.Common.{◌≡◌, ◌+◌, ◌<◌, ◌≤◌, List, ◌∷◌, reverse, length, get_or, vec_items, sym, ap, ◌∙◌, subst, arith, take_all}
+use Rattle.std.proofs.Common.{◌≡◌, ◌<◌, ◌≤◌, List, ◌∷◌, reverse, length, get_or, vec_items, sym, ap, ◌∙◌, subst, arith, take_all}
 use Rattle.grants.specs.declared.call.PlanCall.{PlanCall}
 use Rattle.history.specs.Histories.{allowed}
 use Rattle.history.specs.declared.call.Call.{Call}
