@@ -1,4 +1,4 @@
--- A rule at each number below a bound, by one test that antt computes. Assumes nothing.
+-- A rule at each number below a bound, by one test that antt computes. Stands here since the laws of the books do. Assumes nothing.
 use Rattle.std.specs.Prelude.{◌≡◌, ℕ, zero, suc, ◌<◌, Bool, true, false, ◌&&◌, T, ◌⊎◌, refl}
 use Rattle.std.proofs.Common.{subst, sym, inl, inr, not-suc-le-zero, arith}
 

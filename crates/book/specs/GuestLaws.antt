@@ -1,4 +1,4 @@
--- The laws of the guest book. Assumes nothing.
+-- The laws of the guest book: proofs. They stand here since a ghost member `lawful` cites each, and can cite `specs` alone. Assumes nothing.
 use Rattle.std.specs.Prelude.{◌≡◌, ℕ, ◌/◌, ◌%◌, ◌^◌, Bool, ◌==◌, refl}
 use Rattle.std.proofs.Common.{arith, lit<}
 use Rattle.access.specs.Rights.{allows, perms_of, perms}

@@ -1,4 +1,4 @@
--- Two laws of legal bytes, of any book, by one test that antt computes at each of the 256 bytes. Assumes nothing.
+-- Two laws of legal bytes, of any book, by one test that antt computes at each of the 256 bytes. Stands here since the laws of the books do. Assumes nothing.
 use Rattle.std.specs.Prelude.{◌≡◌, ℕ, ◌/◌, ◌%◌, ◌<◌, Bool, true, false, ◌&&◌, T, ◌==◌}
 use Rattle.std.proofs.Common.{subst, eqb→eq}
 use Rattle.book.specs.Bits.{without_a}

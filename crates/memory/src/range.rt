@@ -2,8 +2,7 @@
 ghost use Rattle.std.specs.Prelude.{◌≡◌, ◌+◌, nat_le};
 ghost use Rattle.memory.specs.Meaning.{memory_end};
 
-// The end of the addresses. A memory keeps no `FieldBits`, whose facts generic code cannot take beside a `&mut`,
-// so this is defined for every F: up to 60 bits it is the limit.
+// The end of the addresses. A memory keeps no `FieldBits`, so this is defined for every F: up to 60 bits it is the limit.
 pub(crate) fn memory_end<const F: u32>() -> u64
     ensures { result ≡ memory_end F }
 {

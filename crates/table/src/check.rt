@@ -1,5 +1,5 @@
 // The check of an access against a table.
-ghost use Rattle.std.specs.Prelude.{◌≡◌, ◌+◌, ◌^◌, ◌<◌, Decides as Tells};
+ghost use Rattle.std.specs.Prelude.{◌+◌, ◌^◌, ◌<◌, Decides as Tells};
 ghost use Rattle.table.specs.Tables.{regs};
 ghost use Rattle.table.specs.Checks.{Permitted, Checked, OneAnswer};
 

@@ -1,6 +1,6 @@
 // Saved and restored registers of RV32.
 ghost use Rattle.std.specs.Prelude.{◌≡◌, ℕ, ◌<◌, ◌≤◌, length};
-ghost use Rattle.access.specs.Cases.{Gives, Does};
+ghost use Rattle.access.specs.Cases.{Does};
 ghost use Rattle.table.specs.Registers.{Registers, AllLegal, Same};
 ghost use Rattle.table.specs.Tables.{regs};
 ghost use Rattle.table.specs.RegisterCalls.{register_report};
