@@ -1,4 +1,4 @@
-// The kinds of access, the modes in which one is made, and the rights that allow it.
+// What an access is: its kind, the mode in which it is made, where it goes, and the rights that allow it.
 
 // What an access does.
 #[derive(Clone, Copy, PartialEq, Eq, Debug)]
@@ -16,6 +16,24 @@ pub enum Mode {
     User,
 }
 
+// The kinds of access that read.
+#[derive(Clone, Copy, PartialEq, Eq, Debug)]
+pub enum Reading {
+    Load,
+    Fetch,
+}
+
+// An access as a table is asked for it: in which mode and with which SUM, what it does, and the bytes that it is made to.
+// SUM stands beside the mode and not in it, since it is a bit of the hart's status in every mode.
+#[derive(Clone, Copy, PartialEq, Eq, Debug)]
+pub struct Request {
+    pub mode: Mode,
+    pub sum: bool,
+    pub kind: Kind,
+    pub address: u64,
+    pub width: u64,
+}
+
 // The sets of rights that a region can have, by the letters of read, write and execute.
 #[derive(Clone, Copy, PartialEq, Eq, Debug)]
 pub enum Rights {
@@ -25,3 +43,7 @@ pub enum Rights {
     RW,
     RWX,
 }
+
+// Rights that are none of the five sets.
+#[derive(Clone, Copy, PartialEq, Eq, Debug)]
+pub struct NotASet;

@@ -6,6 +6,7 @@ ghost use Rattle.access.specs.Refusals.{report_of};
 
 use super::access::Kind;
 use super::field_bits::FieldBits;
+use super::range::ends_within;
 use super::refusal::Refusal;
 
 impl Kind {
@@ -14,13 +15,13 @@ impl Kind {
         ensures { result ≡ width_of self width }
     {
         match self {
-            Kind::Load | Kind::Store => (width == 1) | (width == 2) | (width == 4) | (width == 8),
-            Kind::Fetch => (width == 2) | (width == 4),
+            Kind::Load | Kind::Store => matches!(width, 1 | 2 | 4 | 8),
+            Kind::Fetch => matches!(width, 2 | 4),
         }
     }
 }
 
-// Refuses an access that is not well formed.
+// Refuses an access that is not well formed. Mode and SUM have no say, so it takes the parts of a request that have.
 pub fn well_formed<const F: u32>(
     bits: FieldBits<F>,
     kind: Kind,
@@ -33,8 +34,7 @@ pub fn well_formed<const F: u32>(
     if !kind.has_width(width) {
         return Err(Refusal::Width);
     }
-    let limit = bits.limit();
-    if width > limit || address > limit - width {
+    if !ends_within(bits.limit(), address, width) {
         return Err(Refusal::Range);
     }
     Ok(())

@@ -2,7 +2,12 @@
 #![tactic(auto)]
 
 pub mod access;
+mod conversions;
 pub mod field_bits;
 pub mod formed;
+pub mod numbered;
+pub mod range;
 pub mod refusal;
 pub mod reports;
+mod requests;
+mod shown;

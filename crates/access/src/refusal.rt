@@ -1,6 +1,7 @@
 // Why an access is refused.
 
 // What a fault record holds: the cause, the address of the access and the deciding entry, 64 for none.
+// Cause and entry are numbers and no enum or Option, since that is how the record has them.
 #[derive(Clone, Copy, PartialEq, Eq, Debug)]
 pub struct Fault {
     pub cause: u8,

@@ -3,8 +3,10 @@ ghost use Rattle.std.specs.Prelude.{◌≡◌};
 ghost use Rattle.access.specs.Refusals.{report_of, table_cause, memory_cause};
 
 use super::access::Kind;
+use super::numbered::Numbered;
 use super::refusal::Refusal;
 
+// Two functions of three constants: one with a flag would be no plainer, and each caller means one of them.
 impl Kind {
     // The cause of an access of this kind that the table stopped.
     pub fn table_cause(self) -> u8
@@ -29,10 +31,10 @@ impl Kind {
     }
 }
 
-impl Refusal {
-    pub fn number(self) -> u8
-        ensures { result ≡ (report_of self).number }
-    {
+impl Numbered for Refusal {
+    ghost report = { report_of };
+
+    fn number(self) -> u8 {
         match self {
             Refusal::Width => 41,
             Refusal::Range => 42,

@@ -1,11 +1,10 @@
 -- The rule book of S-mode physical memory protection: a row for each value of S, R, W and X. Assumes nothing.
 use Rattle.std.specs.Prelude.{ℕ, Bool, true, false, cond, not, ◌&&◌}
-use Rattle.access.specs.Rights.{Perms, perms, allows}
+use Rattle.access.specs.Rights.{Perms, perms, allows, sum_of}
 use Rattle.access.specs.declared.access.Kind.{Kind}
 use Rattle.access.specs.declared.access.Mode.{Mode}
 use Rattle.access.specs.declared.access.Mode.TheVariants.{Machine, Supervisor, User}
 use Rattle.access.specs.declared.access.Rights.{Rights}
-use Rattle.access.specs.declared.access.Rights.TheVariants.{R, RX, X, RW, RWX}
 use Rattle.book.specs.Bits.{bit}
 use Rattle.book.specs.Books.{Book}
 
@@ -73,11 +72,7 @@ spmp_unmatched User = false
 
 -- A rights set spelled in the three low bits, with S clear.
 abbrev pub plain_byte : Rights → ℕ
-plain_byte R = 1
-plain_byte RX = 5
-plain_byte X = 4
-plain_byte RW = 3
-plain_byte RWX = 7
+plain_byte r = sum_of r
 
 abbrev pub spmp_book : Book
 spmp_book = record { legal = spmp_legal; permits = spmp_permits; unmatched = spmp_unmatched; byte_for = plain_byte }

@@ -11,7 +11,7 @@ pub trait RuleBook {
     fn legal(byte: u8) -> bool
         ensures { result ≡ meaning.legal byte };
 
-    // What an entry with the byte permits.
+    // What an entry with the byte permits. (Not by a `Request`: where the access goes is not the book's.)
     fn permits(byte: u8, mode: Mode, sum: bool, kind: Kind) -> bool
         ensures { result ≡ meaning.permits byte mode sum kind };
 

@@ -21,6 +21,7 @@ pub(crate) fn decided(byte: u8, at: u32) -> bool
 }
 
 // The bit of the decisions that belongs to a mode, SUM and kind.
+// Two flags, and no enum of the three columns: it would be made for this call alone, and taken apart here.
 pub(crate) fn place_of(supervisor: bool, sum: bool, kind: Kind) -> u32
     ensures { result ≡ place supervisor sum kind }
 {

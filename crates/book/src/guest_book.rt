@@ -25,9 +25,9 @@ impl RuleBook for GuestBook {
 
     fn legal(byte: u8) -> bool {
         !bit_of(byte, 5)
-            & !bit_of(byte, 6)
-            & !bit_of(byte, 7)
-            & (bit_of(byte, 0) | !bit_of(byte, 1))
+            && !bit_of(byte, 6)
+            && !bit_of(byte, 7)
+            && (bit_of(byte, 0) || !bit_of(byte, 1))
     }
 
     fn permits(byte: u8, mode: Mode, _sum: bool, kind: Kind) -> bool {
@@ -49,12 +49,6 @@ impl RuleBook for GuestBook {
     }
 
     fn byte_for(rights: Rights) -> u8 {
-        match rights {
-            Rights::R => 0b001,
-            Rights::RX => 0b101,
-            Rights::X => 0b100,
-            Rights::RW => 0b011,
-            Rights::RWX => 0b111,
-        }
+        rights.into()
     }
 }

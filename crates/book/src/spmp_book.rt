@@ -34,12 +34,6 @@ impl RuleBook for SpmpBook {
     }
 
     fn byte_for(rights: Rights) -> u8 {
-        match rights {
-            Rights::R => 0b001,
-            Rights::RX => 0b101,
-            Rights::X => 0b100,
-            Rights::RW => 0b011,
-            Rights::RWX => 0b111,
-        }
+        rights.into()
     }
 }

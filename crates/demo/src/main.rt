@@ -2,17 +2,16 @@
 #![tactic(auto)]
 
 mod memories;
-mod request;
 mod show;
+mod shown;
 mod tasks;
 
-use access::access::Kind;
+use access::access::{Kind, Request};
 use access::field_bits::FieldBits;
 use book::guest_book::GuestBook;
 use book::spmp_book::SpmpBook;
 use memories::memories;
-use request::Request;
-use show::{judge, note, read_back, set_address, set_config, set_switch, tell};
+use show::{Register, judge, note, read_back, set, tell};
 use std::io;
 use table::table::Table;
 use tasks::tasks;
@@ -22,17 +21,17 @@ type SpmpTable = Table<SpmpBook, 32>;
 // Two regions of task 0 and one of task 1: NAPOT, TOR over the entry below, NA4.
 fn set_up(rt: &HostRuntime, table: &mut SpmpTable) -> io::Result<()> {
     println!(rt; "-- set up: two regions of task 0, one of task 1")?;
-    set_address(rt, table, 0, 0x2000_01ff)?;
-    set_address(rt, table, 1, 0x2000_0400)?;
-    set_address(rt, table, 2, 0x2000_0a00)?;
-    set_address(rt, table, 3, 0x0400_0000)?;
-    set_config(rt, table, 0, 0x110b_001d)?;
-    set_switch(rt, table, 0, 0b0111)?;
-    set_address(rt, table, 64, 0)?;
+    set(rt, table, Register::Address, 0, 0x2000_01ff)?;
+    set(rt, table, Register::Address, 1, 0x2000_0400)?;
+    set(rt, table, Register::Address, 2, 0x2000_0a00)?;
+    set(rt, table, Register::Address, 3, 0x0400_0000)?;
+    set(rt, table, Register::Config, 0, 0x110b_001d)?;
+    set(rt, table, Register::Switch, 0, 0b0111)?;
+    set(rt, table, Register::Address, 64, 0)?;
     println!(rt; "-- read back")?;
-    read_back(rt, "config 0", table.read_config(0))?;
-    read_back(rt, "address 2", table.read_address(2))?;
-    read_back(rt, "switch 0", table.read_switch(0))
+    read_back(rt, table, Register::Config, 0)?;
+    read_back(rt, table, Register::Address, 2)?;
+    read_back(rt, table, Register::Switch, 0)
 }
 
 fn judge_modes(rt: &HostRuntime, table: &SpmpTable) -> io::Result<()> {
@@ -71,21 +70,21 @@ fn judge_modes(rt: &HostRuntime, table: &SpmpTable) -> io::Result<()> {
 fn move_below(rt: &HostRuntime, table: &mut SpmpTable) -> io::Result<()> {
     println!(rt; "-- a write to address 1 moves the TOR entry above it")?;
     judge(rt, table, Request::user(Kind::Store, 0x8000_1000, 4))?;
-    set_address(rt, table, 1, 0x2000_0500)?;
+    set(rt, table, Register::Address, 1, 0x2000_0500)?;
     judge(rt, table, Request::user(Kind::Store, 0x8000_1000, 4))?;
     judge(rt, table, Request::user(Kind::Store, 0x8000_13fe, 4))?;
     judge(rt, table, Request::user(Kind::Store, 0x8000_1400, 4))?;
     println!(rt; "-- switched off, entry 1 still lends its address")?;
-    set_switch(rt, table, 0, 0b0100)?;
+    set(rt, table, Register::Switch, 0, 0b0100)?;
     judge(rt, table, Request::user(Kind::Store, 0x8000_1400, 4))?;
     judge(rt, table, Request::user(Kind::Load, 0x8000_0000, 4))
 }
 
 fn keep_legal(rt: &HostRuntime, table: &mut SpmpTable) -> io::Result<()> {
     println!(rt; "-- byte 80 is not legal, so entry 2 keeps 0b; bits 5 and 6 are cleared")?;
-    set_config(rt, table, 0, 0x1180_607d)?;
-    read_back(rt, "config 0", table.read_config(0))?;
-    read_back(rt, "config 16", table.read_config(16))
+    set(rt, table, Register::Config, 0, 0x1180_607d)?;
+    read_back(rt, table, Register::Config, 0)?;
+    read_back(rt, table, Register::Config, 16)
 }
 
 fn save_and_restore(rt: &HostRuntime, table: &SpmpTable) -> io::Result<()> {
@@ -99,7 +98,7 @@ fn save_and_restore(rt: &HostRuntime, table: &SpmpTable) -> io::Result<()> {
     note(rt, "word 80", words[80])?;
     let mut other: SpmpTable = Table::new(FieldBits::rv32());
     tell(rt, "restore", other.restore(&words))?;
-    read_back(rt, "config 0", other.read_config(0))?;
+    read_back(rt, &other, Register::Config, 0)?;
     judge(rt, &other, Request::user(Kind::Store, 0x8000_1400, 4))?;
     println!(rt; "-- a third takes over the registers of the second")?;
     let mut third: SpmpTable = Table::new(FieldBits::rv32());
@@ -110,9 +109,9 @@ fn save_and_restore(rt: &HostRuntime, table: &SpmpTable) -> io::Result<()> {
 fn guests(rt: &HostRuntime) -> io::Result<()> {
     println!(rt; "-- the guest book: S and U alike, and nothing where no entry matches")?;
     let mut table: Table<GuestBook, 32> = Table::new(FieldBits::rv32());
-    set_address(rt, &mut table, 0, 0x2000_01ff)?;
-    set_config(rt, &mut table, 0, 0x1d)?;
-    set_switch(rt, &mut table, 0, 0b0001)?;
+    set(rt, &mut table, Register::Address, 0, 0x2000_01ff)?;
+    set(rt, &mut table, Register::Config, 0, 0x1d)?;
+    set(rt, &mut table, Register::Switch, 0, 0b0001)?;
     judge(
         rt,
         &table,

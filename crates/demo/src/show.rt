@@ -1,16 +1,18 @@
 // What the demonstration prints of a call.
-use crate::request::Request;
+use crate::shown::Shown;
+use access::access::Request;
+use access::numbered::Numbered;
 use access::refusal::Refusal;
 use book::book::RuleBook;
-use std::io;
-use table::refusal::RegisterRefusal;
+use std::{fmt, io};
 use table::table::Table;
 
-// The answer to a save or a restore.
-pub(crate) fn tell(
+// Whether a call was accepted, or the number of its refusal. (The tour of harts has the like: a library function promises what it gives,
+// and printing gives nothing.)
+pub(crate) fn tell<R: Numbered>(
     rt: &HostRuntime,
     call: &str,
-    answer: Result<(), RegisterRefusal>,
+    answer: Result<(), R>,
 ) -> io::Result<()> {
     match answer {
         Ok(()) => println!(rt; "{call}: ok"),
@@ -21,43 +23,39 @@ pub(crate) fn tell(
     }
 }
 
-// The answer to a write of a register.
-fn written(
+// The registers of a table, by kind.
+#[derive(Clone, Copy)]
+pub enum Register {
+    Address,
+    Config,
+    Switch,
+}
+
+impl fmt::Display for Register {
+    fn fmt<W: fmt::Write>(&self, f: &mut fmt::Formatter<W>) -> fmt::Result {
+        f.write_str(match self {
+            Register::Address => "address",
+            Register::Config => "config",
+            Register::Switch => "switch",
+        })
+    }
+}
+
+// Writes register n.
+pub(crate) fn set<B: RuleBook>(
     rt: &HostRuntime,
-    register: &str,
+    table: &mut Table<B, 32>,
+    register: Register,
     n: usize,
     value: u32,
-    answer: Result<(), RegisterRefusal>,
 ) -> io::Result<()> {
+    let answer = match register {
+        Register::Address => table.write_address(n, value),
+        Register::Config => table.write_config(n, value),
+        Register::Switch => table.write_switch(n, value),
+    };
     print!(rt; "{register} {n} = {value:08x}")?;
     tell(rt, "", answer)
-}
-
-pub(crate) fn set_address<B: RuleBook>(
-    rt: &HostRuntime,
-    table: &mut Table<B, 32>,
-    n: usize,
-    value: u32,
-) -> io::Result<()> {
-    written(rt, "address", n, value, table.write_address(n, value))
-}
-
-pub(crate) fn set_config<B: RuleBook>(
-    rt: &HostRuntime,
-    table: &mut Table<B, 32>,
-    n: usize,
-    value: u32,
-) -> io::Result<()> {
-    written(rt, "config", n, value, table.write_config(n, value))
-}
-
-pub(crate) fn set_switch<B: RuleBook>(
-    rt: &HostRuntime,
-    table: &mut Table<B, 32>,
-    n: usize,
-    value: u32,
-) -> io::Result<()> {
-    written(rt, "switch", n, value, table.write_switch(n, value))
 }
 
 // A word, by name.
@@ -65,18 +63,22 @@ pub(crate) fn note(rt: &HostRuntime, name: &str, word: u32) -> io::Result<()> {
     println!(rt; "{name}: {word:08x}")
 }
 
-// A read.
-pub(crate) fn read_back(
+// Reads register n.
+pub(crate) fn read_back<B: RuleBook>(
     rt: &HostRuntime,
-    register: &str,
-    answer: Result<u32, RegisterRefusal>,
+    table: &Table<B, 32>,
+    register: Register,
+    n: usize,
 ) -> io::Result<()> {
+    let answer = match register {
+        Register::Address => table.read_address(n),
+        Register::Config => table.read_config(n),
+        Register::Switch => table.read_switch(n),
+    };
+    print!(rt; "{register} {n}")?;
     match answer {
-        Ok(value) => note(rt, register, value),
-        Err(refusal) => {
-            let number = refusal.number();
-            println!(rt; "{register}: refused {number}")
-        }
+        Ok(value) => note(rt, "", value),
+        Err(refusal) => tell(rt, "", Err(refusal)),
     }
 }
 
@@ -84,33 +86,36 @@ pub(crate) fn read_back(
 pub(crate) fn judge<B: RuleBook>(
     rt: &HostRuntime,
     table: &Table<B, 32>,
-    r: Request,
+    request: Request,
 ) -> io::Result<()> {
-    verdict(
-        rt,
-        r,
-        table.check(r.mode, r.sum, r.kind, r.address, r.width),
-    )
+    verdict(rt, request, table.check(request))
 }
 
-pub(crate) fn verdict(rt: &HostRuntime, r: Request, answer: Result<u8, Refusal>) -> io::Result<()> {
+pub(crate) fn verdict(
+    rt: &HostRuntime,
+    request: Request,
+    answer: Result<u8, Refusal>,
+) -> io::Result<()> {
+    let shown = Shown(request);
     match answer {
-        Ok(entry) => println!(rt; "{r}: pass, entry {entry}"),
-        Err(refusal) => refuse(rt, r, refusal),
+        Ok(entry) => println!(rt; "{shown}: pass, entry {entry}"),
+        Err(refusal) => {
+            print!(rt; "{shown}")?;
+            refused(rt, refusal)
+        }
     }
 }
 
-fn refuse(rt: &HostRuntime, r: Request, refusal: Refusal) -> io::Result<()> {
+fn refused(rt: &HostRuntime, refusal: Refusal) -> io::Result<()> {
     let number = refusal.number();
+    print!(rt; ": refused {number}")?;
     match refusal {
-        Refusal::Width | Refusal::Range => println!(rt; "{r}: refused {number}"),
+        Refusal::Width | Refusal::Range => println!(rt; ""),
         Refusal::Stopped(fault) | Refusal::NotAdmitted(fault) => {
             let cause = fault.cause;
             let address = fault.address;
             let entry = fault.entry;
-            println!(rt;
-                "{r}: refused {number}, cause {cause}, address {address:09x}, entry {entry}"
-            )
+            println!(rt; ", cause {cause}, address {address:09x}, entry {entry}")
         }
     }
 }

@@ -1,24 +1,12 @@
 // Tasks with regions: grants, selections and a withdrawal.
-use crate::request::Request;
-use crate::show::verdict;
-use access::access::Kind;
+use crate::show::{tell, verdict};
+use access::access::{Kind, Request};
 use access::field_bits::FieldBits;
 use book::spmp_book::SpmpBook;
-use grants::refusal::GrantRefusal;
 use grants::resident::ResidentPlan;
 use std::io;
 
 type SpmpPlan = ResidentPlan<SpmpBook, 32>;
-
-fn answered(rt: &HostRuntime, answer: Result<(), GrantRefusal>) -> io::Result<()> {
-    match answer {
-        Ok(()) => println!(rt; ": ok"),
-        Err(refusal) => {
-            let number = refusal.number();
-            println!(rt; ": refused {number}")
-        }
-    }
-}
 
 fn grant(
     rt: &HostRuntime,
@@ -29,21 +17,21 @@ fn grant(
     rights: u64,
 ) -> io::Result<()> {
     print!(rt; "grant to task {task} of {length} bytes at {base:09x}, rights {rights}")?;
-    answered(rt, plan.grant(task, base, length, rights))
+    tell(rt, "", plan.grant(task, base, length, rights))
 }
 
 fn withdraw(rt: &HostRuntime, plan: &mut SpmpPlan, task: u64, base: u64) -> io::Result<()> {
     print!(rt; "withdraw from task {task} what begins at {base:09x}")?;
-    answered(rt, plan.withdraw(task, base))
+    tell(rt, "", plan.withdraw(task, base))
 }
 
 fn select(rt: &HostRuntime, plan: &mut SpmpPlan, task: u64) -> io::Result<()> {
     print!(rt; "select task {task}")?;
-    answered(rt, plan.select(task))
+    tell(rt, "", plan.select(task))
 }
 
-fn judge(rt: &HostRuntime, plan: &SpmpPlan, r: Request) -> io::Result<()> {
-    verdict(rt, r, plan.check(r.mode, r.sum, r.kind, r.address, r.width))
+fn judge(rt: &HostRuntime, plan: &SpmpPlan, request: Request) -> io::Result<()> {
+    verdict(rt, request, plan.check(request))
 }
 
 fn grants(rt: &HostRuntime, plan: &mut SpmpPlan) -> io::Result<()> {

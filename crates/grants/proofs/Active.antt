@@ -1,5 +1,6 @@
 -- Which entries are active, and what they show. Assumes nothing.
 use Rattle.std.proofs.Common.{◌≡◌, ℕ, zero, suc, ◌<◌, Bool, true, false, cond, not, ◌&&◌, eqb, ◌⊎◌, List, ◌∷◌, Some, None, Option, sym, refl, ap, ◌∙◌, subst, inl, inr, ⊎_elim, arith}
+use Rattle.std.proofs.Math.Bool.{and-true}
 use Rattle.std.proofs.lemmas.Bool.{cases_eq, eq-eqb, eqb-true, and_right, true≢false}
 use Rattle.book.specs.Books.{Book, Laws}
 use Rattle.book.specs.Bits.{bit, a_field}
@@ -80,10 +81,6 @@ shown_by s (Upper t g) = selects s t
 abbrev resolved_owner : Book → Owner → ℕ → ℕ × ℕ
 resolved_owner b o below = resolved (matching_of (byte_of b o)) (address_of o) below
 
-and_true : (x : Bool) → (x && true) ≡ x
-and_true true = refl
-and_true false = refl
-
 module _ (b : Book) (l : Laws b) (os : List Owner) (s : Option ℕ) where
   switch_bit : (i : ℕ) → i < 64 → bit (switch_bits os s) i ≡ switched_on s (owner_at os i)
   switch_bit i h = bit_of_bits (λ k. switched_on s (owner_at os k)) 64 i h
@@ -93,7 +90,7 @@ module _ (b : Book) (l : Laws b) (os : List Owner) (s : Option ℕ) where
   active_owner (Lower t g) = and_right (selects s t) false refl
   active_owner (Upper t g) =
       let form = form_of g.base g.length in
-      ap (λ (x : ℕ). selects s t && not (eqb x 0)) (byte_field b l g.rights (a_of form) (a_below form)) ∙ ap (λ (x : Bool). selects s t && x) (a_some form) ∙ and_true (selects s t)
+      ap (λ (x : ℕ). selects s t && not (eqb x 0)) (byte_field b l g.rights (a_of form) (a_below form)) ∙ ap (λ (x : Bool). selects s t && x) (a_some form) ∙ and-true (selects s t)
 
   active_at : (i : ℕ) → i < 64 → active (image b os s) i ≡ shown_by s (owner_at os i)
   active_at i h = ap (λ (x : Bool). x && not (eqb (a_field (byte_of b (owner_at os i))) 0)) (switch_bit i h) ∙ active_owner (owner_at os i)

@@ -1,8 +1,8 @@
 -- The owners hold the regions that the calls on the plan give. Assumes nothing.
-use Rattle.std.proofs.Common.{◌≡◌, ℕ, zero, suc, ◌+◌, Bool, true, false, cond, not, ◌&&◌, eqb, ltb, List, [], ◌∷◌, replicate, Some, None, Option, sym, refl, ap, ◌∙◌, subst, subst₂, ⊎_elim, arith}
+use Rattle.std.proofs.Common.{◌≡◌, ℕ, zero, suc, ◌+◌, Bool, true, false, cond, not, ◌&&◌, eqb, ltb, List, [], ◌∷◌, count_by, replicate, Some, None, Option, sym, refl, ap, ◌∙◌, subst, subst₂, ⊎_elim, arith}
 use Rattle.std.proofs.lemmas.List.{length-replicate}
 use Rattle.std.proofs.lemmas.Bool.{cases_eq, cases_Bool, cases_order, cond-true, cond-false, ne_eqb, eq-eqb, eqb-true, lt-ltb, le-ltb, and_from, both_ways}
-use Rattle.access.specs.Cases.{Report, refused}
+use Rattle.access.specs.Cases.{Report}
 use Rattle.grants.specs.Regions.{fitting, asked, form_of, overlapping}
 use Rattle.grants.specs.Owners.{owner_at, held, held_by, held_below, found_at, vacated}
 use Rattle.grants.specs.Refusals.{grant_cases, withdraw_cases, unless_refused}
@@ -10,7 +10,6 @@ use Rattle.grants.specs.Residence.{grant_answer, after_grant, has_room, withdraw
 use Rattle.grants.specs.Resolving.{Placed}
 use Rattle.grants.specs.Plans.{Holdings, with_region, without, held_with}
 use Rattle.grants.specs.declared.region.Region.{Region}
-use Rattle.grants.specs.declared.region.Form.TheVariants.{Pair}
 use Rattle.grants.specs.declared.owner.Owner.{Owner}
 use Rattle.grants.specs.declared.owner.Owner.TheVariants.{Free, Lower, Upper}
 use Rattle.grants.specs.declared.call.PlanCall.{PlanCall}
@@ -18,10 +17,9 @@ use Rattle.grants.specs.declared.call.PlanCall.TheVariants.{Grant, Withdraw, Sel
 use Rattle.grants.proofs.Resolution.{fits_from}
 use Rattle.grants.proofs.OwnerRegisters.{all_free}
 use Rattle.grants.proofs.Answering.{after_refused, withdraw_missing, withdraw_none, after_kept}
-use Rattle.grants.proofs.Deciding.{some_none}
-use Rattle.grants.proofs.Taking.{Taken, FormOf, grant_taken, grant_placed, free_upper, free_lower}
-use Rattle.grants.proofs.Freeing.{Freed, withdraws, withdraw_placed}
-use Rattle.grants.proofs.Same.{count_of, Same, same_grant, same_withdraw, weight, count_by, sums_same, count_without}
+use Rattle.grants.proofs.Taking.{Taken, grant_taken, grant_placed}
+use Rattle.grants.proofs.Freeing.{Freed, lower_was, withdraws, withdraw_placed}
+use Rattle.grants.proofs.Same.{Same, same_grant, same_withdraw, weight, count_held_by, sums_same, count_without}
 
 -- ---- a grant
 
@@ -38,13 +36,13 @@ module _ (os os' : List Owner) (top t : ℕ) (g : Region) (x : Taken os os' top 
       (⊎_elim (λ h. le-ltb top (suc n) (omega arith) ∙ sym (le-ltb top n (omega arith))) (λ h. lt-ltb top (suc n) (omega arith) ∙ sym (lt-ltb top n h)))
       (cases_order n top)
 
-  taken_count : (n : ℕ) → count_of q (held_below os' u n) ≡ cond (ltb top n) (weight q u (Upper t g)) 0 + count_of q (held_below os u n)
+  taken_count : (n : ℕ) → count_by q (held_below os' u n) ≡ cond (ltb top n) (weight q u (Upper t g)) 0 + count_by q (held_below os u n)
   unfolding held_below
   taken_count zero = let e = cond-false (ltb top 0) (weight q u (Upper t g)) 0 (le-ltb top 0 (omega arith)) in omega arith
   taken_count (suc n) = ⊎_elim
       (λ e.
-      let a = count_by q u (owner_at os' n) (held_below os' u n) in
-      let b = count_by q u (owner_at os n) (held_below os u n) in
+      let a = count_held_by q u (owner_at os' n) (held_below os' u n) in
+      let b = count_held_by q u (owner_at os n) (held_below os u n) in
       let c : weight q u (owner_at os' n) ≡ weight q u (Upper t g) = ap (λ (k : ℕ). weight q u (owner_at os' k)) e ∙ ap (weight q u) x.top_is in
       let d : weight q u (owner_at os n) ≡ 0 = ap (λ (k : ℕ). weight q u (owner_at os k)) e ∙ ap (weight q u) x.top_was in
       let i = taken_count n in
@@ -52,8 +50,8 @@ module _ (os os' : List Owner) (top t : ℕ) (g : Region) (x : Taken os os' top 
       let z = cond-true (ltb top (suc n)) (weight q u (Upper t g)) 0 (lt-ltb top (suc n) (omega arith)) in
       omega arith)
       (λ ne.
-      let a = count_by q u (owner_at os' n) (held_below os' u n) in
-      let b = count_by q u (owner_at os n) (held_below os u n) in
+      let a = count_held_by q u (owner_at os' n) (held_below os' u n) in
+      let b = count_held_by q u (owner_at os n) (held_below os u n) in
       let c = weight_other n ne in
       let i = taken_count n in
       let y : cond (ltb top (suc n)) (weight q u (Upper t g)) 0 ≡ cond (ltb top n) (weight q u (Upper t g)) 0 = ap (λ (w : Bool). cond w (weight q u (Upper t g)) 0) (past_other n ne) in
@@ -61,11 +59,11 @@ module _ (os os' : List Owner) (top t : ℕ) (g : Region) (x : Taken os os' top 
       (cases_eq n top)
 
   -- one region more
-  pub taken_held : count_of q (held os' u) ≡ count_of q (held_by (Upper t g) u (held os u))
+  pub taken_held : count_by q (held os' u) ≡ count_by q (held_by (Upper t g) u (held os u))
   taken_held =
       let z = cond-true (ltb top 64) (weight q u (Upper t g)) 0 (lt-ltb top 64 x.below) in
       let i = taken_count 64 in
-      let b = count_by q u (Upper t g) (held os u) in
+      let b = count_held_by q u (Upper t g) (held os u) in
       omega arith
 
 -- ---- a withdrawal
@@ -81,13 +79,6 @@ meet f h g l k e =
 module _ (os os' : List Owner) (top t : ℕ) (g : Region) (x : Freed os os' top t g) (f : ℕ) (p : Placed f os) (q : Region → Bool) where
   other : Region → Bool
   other h = q h && not (eqb h.base g.base)
-
-  lower_was : (k : ℕ) → suc k ≡ top → FormOf g ≡ Pair → owner_at os k ≡ Lower t g
-  lower_was k e pair =
-      let y = (p.uppers top t g x.top_was).1 pair in
-      let a = y.1 in
-      let s : k ≡ y.0 = omega arith in
-      ap (owner_at os) s ∙ y.2
 
   not_base : (k : ℕ) (h : Region) → owner_at os k ≡ Upper t h → (k ≡ top → ⊥) → eqb h.base g.base ≡ false
   not_base k h e ne = ne_eqb h.base g.base
@@ -119,35 +110,35 @@ module _ (os os' : List Owner) (top t : ℕ) (g : Region) (x : Freed os os' top 
   weight_freed : (k : ℕ) → weight q t (owner_at os' k) ≡ weight other t (owner_at os k)
   unfolding other
   weight_freed k = ⊎_elim
-      (λ f. ap (weight q t) f.0 ∙ sym (⊎_elim
+      (λ y. ap (weight q t) y.0 ∙ sym (⊎_elim
       (λ e. ap (λ (z : ℕ). weight other t (owner_at os z)) e ∙ ap (weight other t) x.top_was ∙ gone)
-      (λ e. ap (weight other t) (lower_was k e.0 e.1))
-      f.1))
+      (λ e. ap (weight other t) (lower_was os os' top t g x f p k e.0 e.1))
+      y.1))
       (λ s. ap (weight q t) s.0 ∙ keep_weight k (owner_at os k) refl s.1)
       (x.each k)
 
   weight_others : (u : ℕ) → eqb t u ≡ false → (k : ℕ) → weight q u (owner_at os' k) ≡ weight q u (owner_at os k)
   weight_others u d k = ⊎_elim
-      (λ f. ap (weight q u) f.0 ∙ sym (⊎_elim
+      (λ y. ap (weight q u) y.0 ∙ sym (⊎_elim
       (λ e. ap (λ (z : ℕ). weight q u (owner_at os z)) e ∙ ap (weight q u) x.top_was ∙ cond-false (eqb t u) (cond (q g) 1 0) 0 d)
-      (λ e. ap (weight q u) (lower_was k e.0 e.1))
-      f.1))
+      (λ e. ap (weight q u) (lower_was os os' top t g x f p k e.0 e.1))
+      y.1))
       (λ s. ap (weight q u) s.0)
       (x.each k)
 
   -- the region is gone, and all others stay
-  freed_own : count_of q (held os' t) ≡ count_of q (without g.base (held os t))
+  freed_own : count_by q (held os' t) ≡ count_by q (without g.base (held os t))
   unfolding other
   freed_own = sums_same q other t os os' weight_freed 64 ∙ sym (count_without q g.base (held os t))
 
-  freed_others : (u : ℕ) → eqb t u ≡ false → count_of q (held os' u) ≡ count_of q (held os u)
+  freed_others : (u : ℕ) → eqb t u ≡ false → count_by q (held os' u) ≡ count_by q (held os u)
   freed_others u d = sums_same q q u os os' (weight_others u d) 64
 
-  pub freed_held : (u : ℕ) → count_of q (held os' u) ≡ count_of q (cond (eqb t u) (without g.base (held os u)) (held os u))
+  pub freed_held : (u : ℕ) → count_by q (held os' u) ≡ count_by q (cond (eqb t u) (without g.base (held os u)) (held os u))
   freed_held u = ⊎_elim
-      (λ e. let P : ℕ → Type 0 = λ v. count_of q (held os' v) ≡ count_of q (without g.base (held os v)) in
-      subst P (eqb-true t u e) freed_own ∙ sym (ap (count_of q) (cond-true (eqb t u) (without g.base (held os u)) (held os u) e)))
-      (λ d. freed_others u d ∙ sym (ap (count_of q) (cond-false (eqb t u) (without g.base (held os u)) (held os u) d)))
+      (λ e. let P : ℕ → Type 0 = λ v. count_by q (held os' v) ≡ count_by q (without g.base (held os v)) in
+      subst P (eqb-true t u e) freed_own ∙ sym (ap (count_by q) (cond-true (eqb t u) (without g.base (held os u)) (held os u) e)))
+      (λ d. freed_others u d ∙ sym (ap (count_by q) (cond-false (eqb t u) (without g.base (held os u)) (held os u) d)))
       (cases_Bool (eqb t u))
 
 -- ---- the calls
@@ -174,12 +165,12 @@ module _ (f : ℕ) (os : List Owner) (h : Holdings) (x : Agrees f os h) (t b l r
       let g = y.0 in
       let k = y.1 in
       let a = taken_held os (after_grant f os t b l r) k.top t g k.taken w u in
-      let c = count_by w u (Upper t g) (held os u) in
-      let d = count_by w u (Upper t g) (h u) in
+      let c = count_held_by w u (Upper t g) (held os u) in
+      let d = count_held_by w u (Upper t g) (h u) in
       let e = x.same u w in
-      let s : count_of w (held_by (Upper t g) u (held os u)) ≡ count_of w (held_by (Upper t g) u (h u)) = omega arith in
+      let s : count_by w (held_by (Upper t g) u (held os u)) ≡ count_by w (held_by (Upper t g) u (h u)) = omega arith in
       let z : with_region (asked b l r) (h u) ≡ g ∷ h u = ap (λ (o : Option Region). with_region o (h u)) k.region in
-      a ∙ s ∙ ap (λ (v : List Region). count_of w (cond (eqb t u) v (h u))) (sym z)
+      a ∙ s ∙ ap (λ (v : List Region). count_by w (cond (eqb t u) v (h u))) (sym z)
 
   grant_held : (o : Option Report) → grant_answer f os t b l r ≡ o
       → (u : ℕ) → Same (held (after_grant f os t b l r) u) (held_next (grant_cases f 16 (h t) (λ _. has_room os (form_of b l)) t b l r) (Grant t b l r) h u)
@@ -198,10 +189,10 @@ module _ (f : ℕ) (os : List Owner) (h : Holdings) (x : Agrees f os h) (t b : �
   less_held i n u w =
       let y = withdraws f os t b i x.placed n in
       freed_held os (vacated os i) i t y.0 y.1.freed f x.placed w u
-      ∙ ap (λ (z : ℕ). count_of w (cond (eqb t u) (without z (held os u)) (held os u))) y.1.base
+      ∙ ap (λ (z : ℕ). count_by w (cond (eqb t u) (without z (held os u)) (held os u))) y.1.base
       ∙ go (eqb t u)
     where
-      go : (y : Bool) → count_of w (cond y (without b (held os u)) (held os u)) ≡ count_of w (cond y (without b (h u)) (h u))
+      go : (y : Bool) → count_by w (cond y (without b (held os u)) (held os u)) ≡ count_by w (cond y (without b (h u)) (h u))
       go true = count_without w b (held os u) ∙ x.same u (λ g. w g && not (eqb g.base b)) ∙ sym (count_without w b (h u))
       go false = x.same u w
 
@@ -212,8 +203,8 @@ module _ (f : ℕ) (os : List Owner) (h : Holdings) (x : Agrees f os h) (t b : �
       go : (o : Option ℕ) → found_at os t b ≡ o → (i : ℕ) × (found_at os t b ≡ Some i)
       go (Some i) e = (i, e)
       go None e = ⊎_elim
-          (λ y. some_none (refused 28 []) (sym (withdraw_missing os t b y e) ∙ q))
-          (λ d. some_none (refused 21 []) (sym (withdraw_none os t b d) ∙ q))
+          (λ y. let n = sym (withdraw_missing os t b y e) ∙ q in cc)
+          (λ d. let n = sym (withdraw_none os t b d) ∙ q in cc)
           (cases_Bool (ltb t 16))
 
   withdraw_held : (o : Option Report) → withdraw_answer os t b ≡ o → (u : ℕ) → Same (held (after_withdraw os t b) u) (held_next (withdraw_cases 16 (h t) t b) (Withdraw t b) h u)
@@ -239,9 +230,9 @@ start_held u q = sums_same q q u [] (replicate 64 Free) (λ k. ap (weight q u) (
 pub start_placed : (f : ℕ) → Placed f (replicate 64 Free)
 start_placed f = record {
   sized = length-replicate 64 Free;
-  uppers = λ i t g e. absurd (free_upper (owner_at (replicate 64 Free) i) t g (all_free i) e);
-  lowers = λ i t g e. absurd (free_lower (owner_at (replicate 64 Free) i) t g (all_free i) e);
-  apart = λ i j t g k e d n. absurd (free_upper (owner_at (replicate 64 Free) i) t g (all_free i) e);
+  uppers = λ i t g e. let a = all_free i in cc;
+  lowers = λ i t g e. let a = all_free i in cc;
+  apart = λ i j t g k e d n. let a = all_free i in cc;
 }
 
 pub start_agrees : (f : ℕ) → Agrees f (replicate 64 Free) (λ _. [])

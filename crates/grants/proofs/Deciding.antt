@@ -1,15 +1,13 @@
 -- The cases of a grant in their order. Assumes nothing.
-use Rattle.std.proofs.Common.{◌≡◌, ℕ, Bool, true, false, cond, not, ltb, leb, List, [], ◌∷◌, length, Some, None, Option, sym, refl, ap, arith}
+use Rattle.std.proofs.Common.{◌≡◌, ℕ, Bool, true, false, cond, not, ltb, leb, List, [], ◌∷◌, length, Some, None, Option, is_none, refl, ap}
 use Rattle.std.proofs.lemmas.Bool.{not-false}
 use Rattle.access.specs.Cases.{Report, refused, first_of}
 use Rattle.access.specs.declared.access.Rights.{Rights}
-use Rattle.grants.specs.Regions.{fitting, rights_of, with_rights, asked, form_of}
-use Rattle.grants.specs.Refusals.{is_none, any_overlaps, formless, grant_cases}
+use Rattle.access.specs.Rights.{rights_of}
+use Rattle.grants.specs.Regions.{fitting, with_rights, asked, form_of}
+use Rattle.grants.specs.Refusals.{any_overlaps, formless, grant_cases}
 use Rattle.grants.specs.declared.region.Region.{Region}
 use Rattle.grants.specs.declared.region.Form.{Form}
-
-pub some_none : {X : Type 0} (x : Report) → ◌≡◌ {A = Option Report} (Some x) None → X
-some_none x p = absurd (let z : ◌≡◌ {A = ℕ} 0 1 = cc in omega arith)
 
 -- the cases by their tests
 abbrev chain : Bool → Bool → Option Rights → Bool → Bool → Bool → Bool → Option Report
@@ -25,7 +23,7 @@ early x q false false None d e f p = p
 early x q false false (Some r) true e f p = p
 early x q false false (Some r) false true f p = p
 early x q false false (Some r) false false true p = p
-early x q false false (Some r) false false false p = some_none q (sym p)
+early x q false false (Some r) false false false p = cc
 
 -- what a grant has passed that is not refused
 record Clear (a b : Bool) (o : Option Rights) (d e f x : Bool) : Type 0 where
@@ -39,13 +37,13 @@ record Clear (a b : Bool) (o : Option Rights) (d e f x : Bool) : Type 0 where
   room : x ≡ false
 
 clear : (a b : Bool) (o : Option Rights) (d e f x : Bool) → chain a b o d e f x ≡ None → Clear a b o d e f x
-clear true b o d e f x p = some_none (refused 21 []) p
-clear false true o d e f x p = some_none (refused 22 []) p
-clear false false None d e f x p = some_none (refused 23 []) p
-clear false false (Some r) true e f x p = some_none (refused 24 []) p
-clear false false (Some r) false true f x p = some_none (refused 25 []) p
-clear false false (Some r) false false true x p = some_none (refused 26 []) p
-clear false false (Some r) false false false true p = some_none (refused 27 []) p
+clear true b o d e f x p = cc
+clear false true o d e f x p = cc
+clear false false None d e f x p = cc
+clear false false (Some r) true e f x p = cc
+clear false false (Some r) false true f x p = cc
+clear false false (Some r) false false true x p = cc
+clear false false (Some r) false false false true p = cc
 clear false false (Some r) false false false false p = record { rights = r; task = refl; fits = refl; set = refl; apart = refl; form = refl; few = refl; room = refl }
 
 module _ (f tasks : ℕ) (gs : List Region) (t b l r : ℕ) where

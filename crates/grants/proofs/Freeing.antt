@@ -13,7 +13,7 @@ use Rattle.grants.specs.declared.region.Form.TheVariants.{Na4, Napot, Pair}
 use Rattle.grants.specs.declared.owner.Owner.{Owner}
 use Rattle.grants.specs.declared.owner.Owner.TheVariants.{Free, Lower, Upper}
 use Rattle.grants.proofs.Answering.{found_law}
-use Rattle.grants.proofs.Taking.{FormOf, free_upper, free_lower, lower_upper, upper_region}
+use Rattle.grants.proofs.Taking.{FormOf}
 
 -- the entries of the region at `top` are free, and every other entry is as it was
 pub record Freed (os os' : List Owner) (top t : ℕ) (g : Region) : Type 0 where
@@ -24,12 +24,20 @@ pub record Freed (os os' : List Owner) (top t : ℕ) (g : Region) : Type 0 where
 
 module _ (os os' : List Owner) (top t : ℕ) (g : Region) (x : Freed os os' top t g) (f : ℕ) (p : Placed f os) where
   kept_upper : (i u : ℕ) (k : Region) → owner_at os' i ≡ Upper u k → (owner_at os i ≡ Upper u k) × (i ≡ top → ⊥)
-  kept_upper i u k e = ⊎_elim (λ f. absurd (free_upper (owner_at os' i) u k f.0 e)) (λ s. (sym s.0 ∙ e, s.1)) (x.each i)
+  kept_upper i u k e = ⊎_elim (λ f. let a = f.0 in cc) (λ s. (sym s.0 ∙ e, s.1)) (x.each i)
+
+  -- the lower entry of a freed pair
+  pub lower_was : (k : ℕ) → suc k ≡ top → FormOf g ≡ Pair → owner_at os k ≡ Lower t g
+  lower_was k e pair =
+      let y = (p.uppers top t g x.top_was).1 pair in
+      let a = y.1 in
+      let s : k ≡ y.0 = omega arith in
+      ap (owner_at os) s ∙ y.2
 
   -- the lower entry of another region stays
   lower_stays : (i u : ℕ) (k : Region) → owner_at os i ≡ Lower u k → (suc i ≡ top → ⊥) → owner_at os' i ≡ Lower u k
   lower_stays i u k e ne = ⊎_elim
-      (λ f. ⊎_elim (λ q. absurd (lower_upper (owner_at os i) u t k g e (ap (owner_at os) q ∙ x.top_was))) (λ q. absurd (ne q.0)) f.1)
+      (λ f. ⊎_elim (λ q. let a : owner_at os i ≡ Upper t g = ap (owner_at os) q ∙ x.top_was in cc) (λ q. absurd (ne q.0)) f.1)
       (λ s. s.0 ∙ e)
       (x.each i)
 
@@ -38,21 +46,21 @@ module _ (os os' : List Owner) (top t : ℕ) (g : Region) (x : Freed os os' top 
   upper_stays i u k e ne = ⊎_elim
       (λ f. ⊎_elim
       (λ q. absurd (ne q))
-      (λ q. let y = (p.uppers top t g x.top_was).1 q.1 in
-      let same : y.0 ≡ i = (let a = y.1 in let b = q.0 in omega arith) in
-      absurd (lower_upper (owner_at os i) t u g k (ap (owner_at os) (sym same) ∙ y.2) e))
+      (λ q. let a = lower_was i q.0 q.1 in cc)
       f.1)
       (λ s. s.0 ∙ e)
       (x.each i)
 
   freed_lowers : (i u : ℕ) (k : Region) → owner_at os' i ≡ Lower u k → (owner_at os' (suc i) ≡ Upper u k) × (FormOf k ≡ Pair)
   freed_lowers i u k e = ⊎_elim
-      (λ f. absurd (free_lower (owner_at os' i) u k f.0 e))
-      (λ s. let o = p.lowers i u k (sym s.0 ∙ e) in (
-        upper_stays (suc i) u k o.0
-            (λ q. s.2 (ap FormOf (sym (upper_region (owner_at os (suc i)) u t k g o.0 (ap (owner_at os) q ∙ x.top_was))) ∙ o.1) q),
-        o.1,
-      ))
+      (λ f. let a = f.0 in cc)
+      (λ s. let o = p.lowers i u k (sym s.0 ∙ e) in
+      let differs : suc i ≡ top → ⊥ = λ q.
+      let a = o.0 in
+      let b : owner_at os (suc i) ≡ Upper t g = ap (owner_at os) q ∙ x.top_was in
+      let same : g ≡ k = cc in
+      s.2 (ap FormOf same ∙ o.1) q in
+      (upper_stays (suc i) u k o.0 differs, o.1))
       (x.each i)
 
   pub freed_placed : Placed f os'
@@ -99,8 +107,8 @@ module _ (os : List Owner) (t : ℕ) (g : Region) (f : ℕ) (p : Placed f os) (i
       }
 
   freed_form : (form : Form) → FormOf g ≡ form → Freed os (vacated_form form os i) i t g
-  freed_form Na4 q = freed_one (λ z. let w : ◌≡◌ {A = ℕ} 0 1 = cc in omega arith)
-  freed_form Napot q = freed_one (λ z. let w : ◌≡◌ {A = ℕ} 0 1 = cc in omega arith)
+  freed_form Na4 q = freed_one (λ z. cc)
+  freed_form Napot q = freed_one (λ z. cc)
   freed_form Pair q = freed_two q
 
   pub freed : Freed os (vacated os i) i t g

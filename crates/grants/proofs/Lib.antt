@@ -8,7 +8,6 @@ pub mod OwnerRegisters
 pub mod Deciding
 pub mod Answering
 pub mod Active
-pub mod Restanding
 pub mod Taking
 pub mod Freeing
 pub mod Same

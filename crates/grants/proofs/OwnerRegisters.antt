@@ -1,16 +1,15 @@
 -- Registers written for an owner. Assumes nothing.
-use Rattle.std.proofs.Common.{◌≡◌, ℕ, suc, ◌+◌, ◌^◌, ◌<◌, Bool, true, false, not, ◌&&◌, eqb, ltb, List, [], ◌∷◌, length, set, replicate, Some, None, Ok, Err, Option, Result, sym, refl, ap, ◌∙◌, ⊎_elim, mod-eq_of_lt, arith}
+use Rattle.std.proofs.Common.{◌≡◌, ℕ, suc, ◌+◌, ◌^◌, ◌<◌, true, not, ◌&&◌, eqb, ltb, List, [], length, set, replicate, Some, None, Ok, Err, Option, Result, sym, refl, ap, ◌∙◌, ⊎_elim, mod-eq_of_lt, arith}
 use mathlib.Core.Path.{fun_ext}
 use Rattle.std.proofs.lemmas.Nat.{pow_pos}
 use Rattle.std.proofs.lemmas.List.{get_or-set_same, get_or-set_other, get_or_past, get_or-replicate, length-replicate}
-use Rattle.std.proofs.lemmas.Bool.{cases_eq, cases_lt, cases_Bool, lt-ltb, eqb-false, both_ways, and_from, true≢false}
-use Rattle.access.specs.Cases.{Report, refused, first_of, Does}
+use Rattle.std.proofs.lemmas.Bool.{cases_eq, cases_lt, cases_Bool, cond-true, cond-false, eq-eqb, ne_eqb, lt-ltb, eqb-false, both_ways, and_from}
+use Rattle.access.specs.Cases.{refused, Does}
 use Rattle.access.specs.Formed.{limit}
 use Rattle.book.specs.Books.{Book, Laws}
 use Rattle.table.specs.Registers.{Registers, put, with_switch, zeros}
 use Rattle.table.specs.RegisterCalls.{kept_byte, entry_written, register_report, no_register}
 use Rattle.table.specs.declared.refusal.RegisterRefusal.{RegisterRefusal}
-use Rattle.table.proofs.EntryLists.{put_at, put_other}
 use Rattle.grants.specs.Regions.{form_of, a_of}
 use Rattle.grants.specs.Owners.{owner_at}
 use Rattle.grants.specs.Images.{byte_of, address_of, switched_on, switch_bits, image}
@@ -63,8 +62,8 @@ placed_fits f os p i = go (owner_at os i) refl
 -- a function of the owners after one is set
 put_owner : (h : Owner → ℕ) (os : List Owner) (i : ℕ) (o : Owner) → i < length os → (k : ℕ) → put (λ x. h (owner_at os x)) i (h o) k ≡ h (owner_at (set os i o) k)
 put_owner h os i o l k = ⊎_elim
-    (λ e. put_at (λ x. h (owner_at os x)) i (h o) k e ∙ sym (ap h (ap (λ (x : ℕ). owner_at (set os i o) x) e ∙ get_or-set_same os i o Free l)))
-    (λ n. put_other (λ x. h (owner_at os x)) i (h o) k n ∙ sym (ap h (get_or-set_other os i k o Free n)))
+    (λ e. cond-true (eqb k i) (h o) (h (owner_at os k)) (eq-eqb k i e) ∙ sym (ap h (ap (λ (x : ℕ). owner_at (set os i o) x) e ∙ get_or-set_same os i o Free l)))
+    (λ n. cond-false (eqb k i) (h o) (h (owner_at os k)) (ne_eqb k i n) ∙ sym (ap h (get_or-set_other os i k o Free n)))
     (cases_eq k i)
 
 pub written_owner : (f : ℕ) (b : Book) → Laws b → (r r' : Registers) (os : List Owner) (i : ℕ) (o : Owner) → i < length os → OwnerFits f o
@@ -76,17 +75,10 @@ written_owner f b l r r' os i o h fit e s = record {
       ∙ ap (λ (c : ℕ → ℕ). put c i (address_of o)) s.addresses ∙ fun_ext (put_owner address_of os i o h);
 }
 
-no_report : {X : Type 0} (x : Report) → ◌≡◌ {A = Option Report} None (Some x) → X
-no_report x p = absurd (let z : ◌≡◌ {A = ℕ} 0 1 = cc in omega arith)
-
 -- a write to a register that is there is made
 pub write_made : (n i : ℕ) (P Q : Type 0) (r : Result (Unit {0}) RegisterRefusal) → i < n → Does register_report (no_register n i) (λ _. P) Q r → P
 write_made n i P Q (Ok _) h w = w.1
-write_made n i P Q (Err e) h w = no_report (register_report e) (sym (fine (ltb i n) (lt-ltb i n h)) ∙ w.0)
-  where
-    fine : (x : Bool) → x ≡ true → first_of ((not x, refused 31 []) ∷ []) ≡ None
-    fine true e = refl
-    fine false e = absurd (true≢false (sym e))
+write_made n i P Q (Err e) h w = let z = sym (cond-false (not (ltb i n)) (Some (refused 31 [])) None (ap not (lt-ltb i n h))) ∙ w.0 in cc
 
 -- ---- the switch bits
 

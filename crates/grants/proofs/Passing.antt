@@ -1,6 +1,7 @@
 -- Which task accesses a table passes above any plan. Assumes nothing.
-use Rattle.std.proofs.Common.{◌≡◌, ℕ, zero, suc, ◌+◌, ◌-◌, ◌<◌, ◌≤◌, Bool, true, false, cond, not, ◌&&◌, eqb, ltb, ◌⊎◌, ◌↔◌, List, [], ◌∷◌, Some, None, Ok, Err, MatchBool, Option, Result, sym, refl, ap, ◌∙◌, subst, subst₂, inl, inr, ⊎_elim, arith}
-use Rattle.std.proofs.lemmas.Bool.{cases_lt, lt-ltb, le-ltb, ltb-false, and_from, both_ways, eqb-true, true≢false}
+use Rattle.std.proofs.Common.{◌≡◌, ℕ, zero, suc, ◌+◌, ◌-◌, ◌<◌, ◌≤◌, Bool, true, false, cond, not, eqb, ltb, ◌⊎◌, ◌↔◌, List, [], ◌∷◌, Some, None, Ok, Err, MatchBool, Option, Result, sym, refl, ap, ◌∙◌, subst, subst₂, inl, inr, ⊎_elim, arith}
+use mathlib.Core.Bool.{and_comm}
+use Rattle.std.proofs.lemmas.Bool.{cond_both, cases_lt, lt-ltb, le-ltb, ltb-false, and_from, both_ways, eqb-true, eqb-false, true≢false}
 use Rattle.std.proofs.lemmas.Bool.Decides.{when_true, when_false}
 use Rattle.access.specs.Cases.{Report, refused, first_of}
 use Rattle.access.specs.Formed.{limit, width_of, WellFormed, ill_formed}
@@ -21,7 +22,7 @@ use Rattle.grants.specs.Passing.{Covered, Passed, TaskAccesses}
 use Rattle.grants.specs.declared.region.Region.{Region}
 use Rattle.grants.specs.declared.call.PlanCall.{PlanCall}
 use Rattle.grants.specs.declared.call.PlanCall.TheVariants.{Grant, Withdraw, Select}
-use Rattle.grants.proofs.Deciding.{some_none, granted}
+use Rattle.grants.proofs.Deciding.{granted}
 use Rattle.grants.proofs.Answering.{asked_by}
 use Rattle.grants.proofs.Taking.{none_overlaps}
 
@@ -30,31 +31,22 @@ use Rattle.grants.proofs.Taking.{none_overlaps}
 abbrev Apart : List Region → Type 0
 Apart gs = (g k : Region) → In g gs → In k gs → (g ≡ k) ⊎ (overlapping g k.base k.length ≡ false)
 
-flip : (a b : Bool) → (a && b) ≡ (b && a)
-flip true true = refl
-flip true false = refl
-flip false true = refl
-flip false false = refl
-
 apart_more : (gs : List Region) (g : Region) → Apart gs → any_overlaps gs g.base g.length ≡ false → Apart (g ∷ gs)
 apart_more gs g a n h k (inl p) (inl q) = inl (p ∙ sym q)
 apart_more gs g a n h k (inl p) (inr j) =
-    inr (flip (ltb h.base (k.base + k.length)) (ltb k.base (h.base + h.length)) ∙ ap (λ (z : Region). overlapping k z.base z.length) p ∙ none_overlaps gs g.base g.length k n j)
+    inr (and_comm (ltb h.base (k.base + k.length)) (ltb k.base (h.base + h.length)) ∙ ap (λ (z : Region). overlapping k z.base z.length) p ∙ none_overlaps gs g.base g.length k n j)
 apart_more gs g a n h k (inr i) (inl q) = inr (ap (λ (z : Region). overlapping h z.base z.length) q ∙ none_overlaps gs g.base g.length h n i)
 apart_more gs g a n h k (inr i) (inr j) = a h k i j
 
-in_without : (b : ℕ) (gs : List Region) (g : Region) → In g (without b gs) → In g gs
-in_without b [] g i = i
-in_without b (k ∷ gs) g i = go (eqb k.base b) i (in_without b gs g)
+-- what is left of the regions was there, and begins elsewhere
+pub without_parts : (b : ℕ) (gs : List Region) (g : Region) → In g (without b gs) → In g gs × (g.base ≡ b → ⊥)
+without_parts b [] g i = absurd i
+without_parts b (k ∷ gs) g i = go (eqb k.base b) refl (without_parts b gs g) i
   where
-    go : (x : Bool) → In g (cond x (without b gs) (k ∷ without b gs)) → (In g (without b gs) → In g gs) → In g (k ∷ gs)
-    go true i f = inr (f i)
-    go false (inl e) f = inl e
-    go false (inr i) f = inr (f i)
-
-by_cond : (x : Bool) (gs hs : List Region) → (x ≡ true → Apart gs) → Apart hs → Apart (cond x gs hs)
-by_cond true gs hs f a = f refl
-by_cond false gs hs f a = a
+    go : (x : Bool) → eqb k.base b ≡ x → (In g (without b gs) → In g gs × (g.base ≡ b → ⊥)) → In g (cond x (without b gs) (k ∷ without b gs)) → In g (k ∷ gs) × (g.base ≡ b → ⊥)
+    go true q ih i = let p = ih i in (inr p.0, p.1)
+    go false q ih (inl e) = (inl e, λ h. eqb-false k.base b q (ap (λ (z : Region). z.base) (sym e) ∙ h))
+    go false q ih (inr i) = let p = ih i in (inr p.0, p.1)
 
 with_region_lem : (o : Option Region) (b l : ℕ) (gs : List Region) → ((g : Region) → o ≡ Some g → (g.base ≡ b) × (g.length ≡ l)) → Apart gs → any_overlaps gs b l ≡ false → Apart (with_region o gs)
 with_region_lem None b l gs s a n = a
@@ -63,10 +55,10 @@ with_region_lem (Some g) b l gs s a n = let e = s g refl in apart_more gs g a (s
 module _ (f : ℕ) (p : PlanTerms) where
   step : (cs : List PlanCall) (h : Holdings) → ((u : ℕ) → Apart (h u)) → (c : PlanCall) (o : Option Report) → answer_with f p cs h c ≡ o → (u : ℕ) → Apart (unless_refused o (held_with c h u) (h u))
   step cs h a c (Some e) q u = a u
-  step cs h a (Grant t b l r) None q u = by_cond (eqb t u) (with_region (asked b l r) (h u)) (h u)
+  step cs h a (Grant t b l r) None q u = cond_both (eqb t u) (with_region (asked b l r) (h u)) (h u) Apart
       (λ e. let n = (granted f p.tasks (h t) t b l r (λ _. p.room cs b l) q).1.apart in
-      with_region_lem (asked b l r) b l (h u) (asked_by b l r) (a u) (subst (λ (z : ℕ). any_overlaps (h z) b l ≡ false) (eqb-true t u e) n)) (a u)
-  step cs h a (Withdraw t b) None q u = by_cond (eqb t u) (without b (h u)) (h u) (λ e g k i j. a u g k (in_without b (h u) g i) (in_without b (h u) k j)) (a u)
+      with_region_lem (asked b l r) b l (h u) (asked_by b l r) (a u) (subst (λ (z : ℕ). any_overlaps (h z) b l ≡ false) (eqb-true t u e) n)) (λ _. a u)
+  step cs h a (Withdraw t b) None q u = cond_both (eqb t u) (without b (h u)) (h u) Apart (λ e g k i j. a u g k (without_parts b (h u) g i).0 (without_parts b (h u) k j).0) (λ _. a u)
   step cs h a (Select t) None q u = a u
 
   held_apart : (cs : List PlanCall) (u : ℕ) → Apart (held_after f p cs u)
@@ -83,15 +75,15 @@ some_width Fetch zero e = absurd (true≢false (sym e))
 some_width k (suc w) e = omega arith
 
 -- an access is well formed exactly when nothing is wrong with it
-none_wrong : (f : ℕ) (k : Kind) (a w : ℕ) → WellFormed f k a w → ill_formed f k a w ≡ None
+pub none_wrong : (f : ℕ) (k : Kind) (a w : ℕ) → WellFormed f k a w → ill_formed f k a w ≡ None
 none_wrong f k a w z = let r = le-ltb (limit f) (a + w) z.1 in λ i. first_of ((not (z.0 i), refused 41 []) ∷ (r i, refused 42 []) ∷ [])
 
 is_formed : (f : ℕ) (k : Kind) (a w : ℕ) → ill_formed f k a w ≡ None → WellFormed f k a w
 is_formed f k a w e = go (width_of k w) (ltb (limit f) (a + w)) refl refl e
   where
     go : (x y : Bool) → width_of k w ≡ x → ltb (limit f) (a + w) ≡ y → first_of ((not x, refused 41 []) ∷ (y, refused 42 []) ∷ []) ≡ None → WellFormed f k a w
-    go false y p q n = some_none (refused 41 []) n
-    go true true p q n = some_none (refused 42 []) n
+    go false y p q n = cc
+    go true true p q n = cc
     go true false p q n = (p, ltb-false (limit f) (a + w) q)
 
 module _ (b : Book) (l : Laws b) (r : Registers) (gs : List Region) (s : Resolves b r gs) (sum : Bool) (k : Kind) (a w : ℕ) where
@@ -152,7 +144,7 @@ module _ (b : Book) (l : Laws b) (r : Registers) (gs : List Region) (s : Resolve
   decided f n (Err x) c = ((λ z. absurd z), (λ z. stops f (ill_formed f k a w) refl z.0 z.1 c))
     where
       stops : (f : ℕ) (v : Option Report) → ill_formed f k a w ≡ v → WellFormed f k a w → Covered gs k a w → RefusedAs b r User sum k a w v (report_of x) → ⊥
-      stops f (Some y) q wf cov p = some_none y (sym q ∙ none_wrong f k a w wf)
+      stops f (Some y) q wf cov p = let z = sym q ∙ none_wrong f k a w wf in cc
       stops f None q wf cov p = p.1.1 (permitted n cov (some_width k w wf.0) p.0 p.1.0)
 
 shown_at : (b : Book) (r : Registers) (h : Holdings) (t : ℕ) (o : Option ℕ) → o ≡ Some t → ShownFor b r o h → Resolves b r (h t)

@@ -51,7 +51,7 @@ power_from (suc n) j l h e = ⊎_elim
 -- a power of two, as the exponent it has
 pub power_of : (n l : ℕ) → power_below n l ≡ true → (j : ℕ) × (j < n) × (l ≡ 2 ^ j)
 unfolding power_below
-power_of zero l t = absurd (let z : ◌≡◌ {A = ℕ} 0 1 = cc in omega arith)
+power_of zero l t = cc
 power_of (suc n) l t = go (power_of n l) (or_cases (eqb l (2 ^ n)) (power_below n l) t)
   where
     go : (power_below n l ≡ true → PowerBelow n l) → (eqb l (2 ^ n) ≡ true) ⊎ (power_below n l ≡ true) → PowerBelow (suc n) l

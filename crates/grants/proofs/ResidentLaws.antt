@@ -1,12 +1,12 @@
 -- The plan whose regions stay in their entries keeps the laws of a plan. Assumes nothing.
-use Rattle.std.proofs.Common.{◌≡◌, ℕ, suc, true, not, ◌&&◌, List, [], ◌∷◌, Some, None, Option, sym, refl, ap, ◌∙◌, subst, lit<}
+use Rattle.std.proofs.Common.{◌≡◌, ℕ, suc, true, ◌&&◌, List, [], ◌∷◌, Some, None, Option, is_some, sym, refl, ap, ◌∙◌, subst, lit<}
 use Rattle.access.specs.Cases.{Report}
 use Rattle.book.specs.Books.{Book, Laws}
 use Rattle.table.specs.Registers.{Registers}
 use Rattle.grants.specs.Regions.{form_of}
 use Rattle.grants.specs.Owners.{owner_at, is_free, held, free_at, free_pair_at, room_for}
 use Rattle.grants.specs.Images.{image}
-use Rattle.grants.specs.Refusals.{is_none, unless_refused}
+use Rattle.grants.specs.Refusals.{unless_refused}
 use Rattle.grants.specs.Residence.{grant_answer, withdraw_answer, has_room}
 use Rattle.grants.specs.Resolving.{In, SelectedShown, Standing}
 use Rattle.grants.specs.Plans.{PlanLaws, Holdings, ShownFor, answer_with, answer_after, held_after, selected_after}
@@ -19,7 +19,7 @@ use Rattle.grants.specs.declared.owner.Owner.TheVariants.{Free, Lower, Upper}
 use Rattle.grants.specs.declared.call.PlanCall.{PlanCall}
 use Rattle.grants.specs.declared.call.PlanCall.TheVariants.{Grant, Withdraw, Select}
 use Rattle.grants.proofs.Active.{selected_shown, in_held}
-use Rattle.grants.proofs.Walks.{lowest_start, lowest_found}
+use Rattle.grants.proofs.Walks.{first_found}
 use Rattle.grants.proofs.Same.{same_in}
 use Rattle.grants.proofs.Taking.{upper_below}
 use Rattle.grants.proofs.Agreeing.{Agrees, held_next, asked_is, missing_is, grant_agrees, withdraw_agrees, select_agrees, start_agrees}
@@ -72,12 +72,12 @@ module _ (f : ℕ) (os : List Owner) (h : Holdings) (x : Agrees f os h) (none : 
   free_first = all_free 0 (owner_at os 0) refl
 
   room_at : (form : Form) → room_for os form ≡ Some 0
-  room_at Na4 = lowest_found (free_at os) 0 64 (lit< tt) (lowest_start (free_at os)) free_first
-  room_at Napot = lowest_found (free_at os) 0 64 (lit< tt) (lowest_start (free_at os)) free_first
-  room_at Pair = lowest_found (free_pair_at os) 0 63 (lit< tt) (lowest_start (free_pair_at os)) (λ i. free_first i && all_free 1 (owner_at os 1) refl i)
+  room_at Na4 = first_found (free_at os) 64 (lit< tt) free_first
+  room_at Napot = first_found (free_at os) 64 (lit< tt) free_first
+  room_at Pair = first_found (free_pair_at os) 63 (lit< tt) (λ i. free_first i && all_free 1 (owner_at os 1) refl i)
 
   pub room_free : (form : Form) → has_room os form ≡ true
-  room_free form = ap (λ (o : Option ℕ). not (is_none o)) (room_at form)
+  room_free form = ap is_some (room_at form)
 
 -- ---- the laws
 

@@ -1,5 +1,6 @@
 -- Owners that make sense stay so when a region is granted. Assumes nothing.
-use Rattle.std.proofs.Common.{◌≡◌, ℕ, suc, ◌+◌, ◌<◌, Bool, true, false, ◌&&◌, ltb, ◌⊎◌, List, [], ◌∷◌, length, set, Some, None, Option, sym, refl, ap, ◌∙◌, subst, subst₂, inl, inr, ⊎_elim, add-one, arith}
+use Rattle.std.proofs.Common.{◌≡◌, ℕ, suc, ◌+◌, ◌<◌, true, false, ltb, ◌⊎◌, List, [], ◌∷◌, length, set, Some, None, Option, sym, refl, ap, ◌∙◌, subst, subst₂, inl, inr, ⊎_elim, add-one, arith}
+use mathlib.Core.Bool.{and_comm}
 use Rattle.std.proofs.lemmas.List.{get_or-set_same, get_or-set_other, get_or_past, length-set}
 use Rattle.std.proofs.lemmas.Bool.{cases_eq, cases_lt, and_parts, or_parts, true≢false}
 use Rattle.access.specs.Cases.{Report}
@@ -17,33 +18,6 @@ use Rattle.grants.proofs.Active.{in_held}
 use Rattle.grants.proofs.Deciding.{granted}
 use Rattle.grants.proofs.Walks.{IsRoom, is_room}
 use Rattle.grants.proofs.Answering.{room_some, after_accepted, after_refused}
-
-pub free_upper : (o : Owner) (t : ℕ) (g : Region) → o ≡ Free → o ≡ Upper t g → ⊥
-free_upper o t g p q = let z : ◌≡◌ {A = ℕ} 0 1 = cc in omega arith
-
-pub free_lower : (o : Owner) (t : ℕ) (g : Region) → o ≡ Free → o ≡ Lower t g → ⊥
-free_lower o t g p q = let z : ◌≡◌ {A = ℕ} 0 1 = cc in omega arith
-
-pub lower_upper : (o : Owner) (t u : ℕ) (g k : Region) → o ≡ Lower t g → o ≡ Upper u k → ⊥
-lower_upper o t u g k p q = let z : ◌≡◌ {A = ℕ} 0 1 = cc in omega arith
-
-pub upper_task : (o : Owner) (t u : ℕ) (g k : Region) → o ≡ Upper t g → o ≡ Upper u k → t ≡ u
-upper_task o t u g k p q = cc
-
-pub upper_region : (o : Owner) (t u : ℕ) (g k : Region) → o ≡ Upper t g → o ≡ Upper u k → g ≡ k
-upper_region o t u g k p q = cc
-
-lower_task : (o : Owner) (t u : ℕ) (g k : Region) → o ≡ Lower t g → o ≡ Lower u k → t ≡ u
-lower_task o t u g k p q = cc
-
-lower_region : (o : Owner) (t u : ℕ) (g k : Region) → o ≡ Lower t g → o ≡ Lower u k → g ≡ k
-lower_region o t u g k p q = cc
-
-na4_pair : (f : Form) → f ≡ Na4 → f ≡ Pair → ⊥
-na4_pair f p q = let z : ◌≡◌ {A = ℕ} 0 1 = cc in omega arith
-
-napot_pair : (f : Form) → f ≡ Napot → f ≡ Pair → ⊥
-napot_pair f p q = let z : ◌≡◌ {A = ℕ} 0 1 = cc in omega arith
 
 free_is : (o : Owner) → is_free o ≡ true → o ≡ Free
 free_is Free e = refl
@@ -69,21 +43,15 @@ module _ (os os' : List Owner) (top t : ℕ) (g : Region) (x : Taken os os' top 
   -- an upper entry is the new one, or was there
   upper_was : (i u : ℕ) (k : Region) → owner_at os' i ≡ Upper u k → ((i ≡ top) × (t ≡ u) × (g ≡ k)) ⊎ (owner_at os i ≡ Upper u k)
   upper_was i u k e = ⊎_elim
-      (λ q. let a : owner_at os' i ≡ Upper t g = ap (owner_at os') q ∙ x.top_is in inl (q, upper_task (owner_at os' i) t u g k a e, upper_region (owner_at os' i) t u g k a e))
-      (⊎_elim (λ l. absurd (lower_upper (owner_at os' i) t u g k l.0 e)) (λ s. inr (sym s ∙ e)))
+      (λ q. let a : owner_at os' i ≡ Upper t g = ap (owner_at os') q ∙ x.top_is in inl (q, cc, cc))
+      (⊎_elim (λ l. let a = l.0 in cc) (λ s. inr (sym s ∙ e)))
       (x.each i)
 
   -- what was used stays
-  upper_stays : (i u : ℕ) (k : Region) → owner_at os i ≡ Upper u k → owner_at os' i ≡ Upper u k
-  upper_stays i u k e = ⊎_elim
-      (λ q. absurd (free_upper (owner_at os i) u k (ap (owner_at os) q ∙ x.top_was) e))
-      (⊎_elim (λ l. absurd (free_upper (owner_at os i) u k l.1 e)) (λ s. s ∙ e))
-      (x.each i)
-
-  lower_stays : (i u : ℕ) (k : Region) → owner_at os i ≡ Lower u k → owner_at os' i ≡ Lower u k
-  lower_stays i u k e = ⊎_elim
-      (λ q. absurd (free_lower (owner_at os i) u k (ap (owner_at os) q ∙ x.top_was) e))
-      (⊎_elim (λ l. absurd (free_lower (owner_at os i) u k l.1 e)) (λ s. s ∙ e))
+  used_stays : (i : ℕ) (o : Owner) → owner_at os i ≡ o → (o ≡ Free → ⊥) → owner_at os' i ≡ o
+  used_stays i o e n = ⊎_elim
+      (λ q. absurd (n (sym e ∙ ap (owner_at os) q ∙ x.top_was)))
+      (⊎_elim (λ l. absurd (n (sym e ∙ l.1))) (λ s. s ∙ e))
       (x.each i)
 
   UpperFine : ℕ → ℕ → Region → Type 0
@@ -97,26 +65,20 @@ module _ (os os' : List Owner) (top t : ℕ) (g : Region) (x : Taken os os' top 
   unfolding UpperFine
   uppers i u k e = ⊎_elim
       (λ n. subst (λ (z : ℕ). UpperFine z u k) (sym n.0) (subst₂ (λ (v : ℕ) (h : Region). UpperFine top v h) n.1 n.2 upper_new))
-      (λ w. let o = p.uppers i u k w in (o.0, λ q. let y = o.1 q in (y.0, y.1, lower_stays y.0 u k y.2)))
+      (λ w. let o = p.uppers i u k w in (o.0, λ q. let y = o.1 q in (y.0, y.1, used_stays y.0 (Lower u k) y.2 (λ z. cc))))
       (upper_was i u k e)
 
   lowers : (i u : ℕ) (k : Region) → owner_at os' i ≡ Lower u k → (owner_at os' (suc i) ≡ Upper u k) × (FormOf k ≡ Pair)
   lowers i u k e = ⊎_elim
-      (λ q. absurd (lower_upper (owner_at os' i) u t k g e (ap (owner_at os') q ∙ x.top_is)))
+      (λ q. let a : owner_at os' i ≡ Upper t g = ap (owner_at os') q ∙ x.top_is in cc)
       (⊎_elim
-      (λ l. let v = lower_task (owner_at os' i) t u g k l.0 e in let h = lower_region (owner_at os' i) t u g k l.0 e in
+      (λ l. let a = l.0 in let v : t ≡ u = cc in let h : g ≡ k = cc in
       (ap (owner_at os') l.2 ∙ x.top_is ∙ (λ j. Upper (v j) (h j)), ap FormOf (sym h) ∙ l.3))
-      (λ s. let o = p.lowers i u k (sym s ∙ e) in (upper_stays (suc i) u k o.0, o.1)))
+      (λ s. let o = p.lowers i u k (sym s ∙ e) in (used_stays (suc i) (Upper u k) o.0 (λ z. cc), o.1)))
       (x.each i)
 
-  flip : (a b : Bool) → (a && b) ≡ (b && a)
-  flip true true = refl
-  flip true false = refl
-  flip false true = refl
-  flip false false = refl
-
   turned : (h k : Region) → overlapping h k.base k.length ≡ overlapping k h.base h.length
-  turned h k = flip (ltb h.base (k.base + k.length)) (ltb k.base (h.base + h.length))
+  turned h k = and_comm (ltb h.base (k.base + k.length)) (ltb k.base (h.base + h.length))
 
   apart : (i j u : ℕ) (h k : Region) → owner_at os' i ≡ Upper u h → owner_at os' j ≡ Upper u k → (i ≡ j → ⊥) → overlapping h k.base k.length ≡ false
   apart i j u h k a b ne = ⊎_elim
@@ -174,8 +136,8 @@ module _ (os : List Owner) (t : ℕ) (g : Region) (f : ℕ) (p : Placed f os) wh
   taken form e i r = go form e (is_room os form (Some i) (sym r))
     where
       go : (form : Form) → FormOf g ≡ form → IsRoom os form (Some i) → (top : ℕ) × Taken os (occupied os form t g i) top t g
-      go Na4 e s = (i, taken_one i s.0 (free_is (owner_at os i) s.1) (na4_pair (FormOf g) e))
-      go Napot e s = (i, taken_one i s.0 (free_is (owner_at os i) s.1) (napot_pair (FormOf g) e))
+      go Na4 e s = (i, taken_one i s.0 (free_is (owner_at os i) s.1) (λ q. cc))
+      go Napot e s = (i, taken_one i s.0 (free_is (owner_at os i) s.1) (λ q. cc))
       go Pair e s =
           let b = and_parts (free_at os i) (free_at os (i + 1)) s.1 in
           (i + 1, taken_two i s.0 (free_is (owner_at os i) b.0) (free_is (owner_at os (i + 1)) b.1) e)
@@ -186,7 +148,7 @@ none_overlaps (h ∷ gs) b l k e (inl q) = ap (λ (z : Region). overlapping z b 
 none_overlaps (h ∷ gs) b l k e (inr i) = none_overlaps gs b l k (or_parts (overlapping h b l) (any_overlaps gs b l) e).1 i
 
 pub upper_below : (os : List Owner) (i t : ℕ) (g : Region) → length os ≡ 64 → owner_at os i ≡ Upper t g → i < 64
-upper_below os i t g len e = ⊎_elim (λ h. h) (λ h. absurd (free_upper (owner_at os i) t g (get_or_past os i Free (omega arith)) e)) (cases_lt i 64)
+upper_below os i t g len e = ⊎_elim (λ h. h) (λ h. let a : owner_at os i ≡ Free = get_or_past os i Free (omega arith) in cc) (cases_lt i 64)
 
 module _ (f : ℕ) (os : List Owner) (t b l r : ℕ) where
   -- what an accepted grant takes

@@ -1,5 +1,5 @@
 -- Calls for another task leave the switch bits of the selection as they were. Assumes nothing.
-use Rattle.std.proofs.Common.{◌≡◌, ℕ, suc, Bool, false, eqb, List, Some, None, Option, sym, refl, ap, ◌∙◌, ⊎_elim, arith}
+use Rattle.std.proofs.Common.{◌≡◌, ℕ, Bool, false, eqb, List, Some, None, Option, sym, refl, ap, ◌∙◌, ⊎_elim}
 use Rattle.std.proofs.lemmas.Bool.{ne_eqb}
 use Rattle.access.specs.Cases.{Report}
 use Rattle.grants.specs.Owners.{owner_at, found_at, vacated}
@@ -8,13 +8,11 @@ use Rattle.grants.specs.Refusals.{unless_refused}
 use Rattle.grants.specs.Residence.{grant_answer, after_grant, withdraw_answer, after_withdraw, vacated_at}
 use Rattle.grants.specs.Resolving.{Placed, OthersUntouched}
 use Rattle.grants.specs.declared.region.Region.{Region}
-use Rattle.grants.specs.declared.region.Form.TheVariants.{Pair}
 use Rattle.grants.specs.declared.owner.Owner.{Owner}
-use Rattle.grants.specs.declared.owner.Owner.TheVariants.{Lower}
 use Rattle.grants.proofs.Switches.{bits_alike}
 use Rattle.grants.proofs.Answering.{after_refused}
-use Rattle.grants.proofs.Taking.{Taken, FormOf, grant_taken}
-use Rattle.grants.proofs.Freeing.{Freed, withdraws}
+use Rattle.grants.proofs.Taking.{Taken, grant_taken}
+use Rattle.grants.proofs.Freeing.{Freed, lower_was, withdraws}
 
 module _ (f : ℕ) (os : List Owner) (p : Placed f os) (u t : ℕ) (ne : t ≡ u → ⊥) where
   -- whether the owner is switched on for the other task
@@ -36,19 +34,12 @@ module _ (f : ℕ) (os : List Owner) (p : Placed f os) (u t : ℕ) (ne : t ≡ u
         (⊎_elim (λ l. ap on l.0 ∙ off ∙ sym (ap on l.1)) (λ s. ap on s))
         (x.each k)
 
-    -- the lower entry of a freed pair
-    lower_was : Freed os os' top t g → (k : ℕ) → suc k ≡ top → FormOf g ≡ Pair → owner_at os k ≡ Lower t g
-    lower_was x k e pair =
-        let y = (p.uppers top t g x.top_was).1 pair in
-        let a = y.1 in
-        ap (owner_at os) {x = k} {y = y.0} (omega arith) ∙ y.2
-
     freed_alike : Freed os os' top t g → (k : ℕ) → on (owner_at os' k) ≡ on (owner_at os k)
     unfolding on
     freed_alike x k = ⊎_elim
         (λ z. ap on z.0 ∙ sym (⊎_elim
         (λ e. ap on (ap (owner_at os) e ∙ x.top_was) ∙ off)
-        (λ e. ap on (lower_was x k e.0 e.1) ∙ off)
+        (λ e. ap on (lower_was os os' top t g x f p k e.0 e.1) ∙ off)
         z.1))
         (λ s. ap on s.0)
         (x.each k)

@@ -1,28 +1,30 @@
 -- Walks over the owners. Assumes nothing.
-use Rattle.std.proofs.Common.{◌≡◌, ℕ, zero, suc, ◌+◌, ◌<◌, ◌≤◌, Bool, true, false, cond, ◌&&◌, ◌||◌, eqb, List, ◌∷◌, length, Some, None, Option, sym, refl, ap, ◌∙◌, subst, ⊎_elim, add-one, arith}
+use Rattle.std.proofs.Common.{◌≡◌, ℕ, zero, suc, ◌+◌, ◌<◌, ◌≤◌, Bool, true, false, cond, ◌&&◌, ◌||◌, eqb, List, ◌∷◌, length, take, count_by, Some, None, Option, sym, refl, ap, ◌∙◌, subst, ⊎_elim, add-one, arith}
+use mathlib.Core.Bool.{or_comm}
+use Rattle.std.specs.List.{list_any}
 use Rattle.std.proofs.lemmas.Bool.{cases_eq, cond-true, cond-false}
+use Rattle.std.proofs.lemmas.List.{take_all}
+use Rattle.std.proofs.lemmas.List.Folds.{list_any_more}
+use Rattle.std.proofs.lemmas.List.Sums.{sum_by_more}
 use Rattle.grants.specs.Regions.{overlapping}
-use Rattle.grants.specs.Owners.{owner_at, held_by, held_below, lowest, or_else, IsLowest, LowestFound, room_for, free_at, free_pair_at, entries_of}
+use Rattle.grants.specs.Owners.{owner_at, holds, owner_overlaps, held, held_by, held_below, lowest, or_else, IsLowest, LowestFound, room_for, free_at, free_pair_at, entries_of}
 use Rattle.grants.specs.Refusals.{any_overlaps}
-use Rattle.grants.specs.Owners.{owner_overlaps, holds}
 use Rattle.grants.specs.declared.region.Region.{Region}
 use Rattle.grants.specs.declared.region.Form.{Form}
 use Rattle.grants.specs.declared.region.Form.TheVariants.{Na4, Napot, Pair}
 use Rattle.grants.specs.declared.owner.Owner.{Owner}
 use Rattle.grants.specs.declared.owner.Owner.TheVariants.{Free, Lower, Upper}
 
-pub lowest_start : (p : ℕ → Bool) → lowest p 0 ≡ None
-unfolding lowest
-lowest_start p = refl
-
 lowest_next : (p : ℕ → Bool) (i : ℕ) → lowest p i ≡ None → p i ≡ false → lowest p (suc i) ≡ None
 unfolding lowest
 lowest_next p i n f = ap (λ (o : Option ℕ). or_else o (cond (p i) (Some i) None)) n ∙ cond-false (p i) (Some i) None f
 
-pub lowest_more : (p : ℕ → Bool) (i : ℕ) → lowest p i ≡ None → p i ≡ false → lowest p (i + 1) ≡ None
-lowest_more p i n f = ap (lowest p) (add-one i) ∙ lowest_next p i n f
+lowest_none : (p : ℕ → Bool) (n : ℕ) → ((k : ℕ) → k < n → p k ≡ false) → lowest p n ≡ None
+unfolding lowest
+lowest_none p zero h = refl
+lowest_none p (suc n) h = lowest_next p n (lowest_none p n (λ k l. h k (omega arith))) (h n (omega arith))
 
-pub lowest_found : (p : ℕ → Bool) (i n : ℕ) → i < n → lowest p i ≡ None → p i ≡ true → lowest p n ≡ Some i
+lowest_found : (p : ℕ → Bool) (i n : ℕ) → i < n → lowest p i ≡ None → p i ≡ true → lowest p n ≡ Some i
 unfolding lowest
 lowest_found p i zero h e t = absurd (omega arith)
 lowest_found p i (suc n) h e t = ⊎_elim
@@ -30,6 +32,14 @@ lowest_found p i (suc n) h e t = ⊎_elim
     subst P q (ap (λ (o : Option ℕ). or_else o (cond (p i) (Some i) None)) e ∙ cond-true (p i) (Some i) None t))
     (λ q. ap (λ (o : Option ℕ). or_else o (cond (p n) (Some n) None)) (lowest_found p i n (omega arith) e t))
     (cases_eq i n)
+
+-- a search has one right outcome
+pub lowest_only : (p : ℕ → Bool) (n : ℕ) (o : Option ℕ) → IsLowest p n o → o ≡ lowest p n
+lowest_only p n None h = sym (lowest_none p n h)
+lowest_only p n (Some i) h = sym (lowest_found p i n h.0 (lowest_none p i h.2) h.1)
+
+pub first_found : (p : ℕ → Bool) (n : ℕ) → 0 < n → p 0 ≡ true → lowest p n ≡ Some 0
+first_found p n h e = sym (lowest_only p n (Some 0) (h, e, λ k l. absurd (omega arith)))
 
 -- ---- what a search finds
 
@@ -64,34 +74,47 @@ room_below os Pair i h = let l = h.0 in omega arith
 
 -- ---- the regions that a task holds
 
-overlaps_by : (o : Owner) (t b l : ℕ) (gs : List Region) → any_overlaps (held_by o t gs) b l ≡ (owner_overlaps t b l o || any_overlaps gs b l)
-overlaps_by Free t b l gs = refl
-overlaps_by (Lower u g) t b l gs = refl
-overlaps_by (Upper u g) t b l gs = go (eqb u t)
-  where
-    go : (x : Bool) → any_overlaps (cond x (g ∷ gs) gs) b l ≡ ((x && overlapping g b l) || any_overlaps gs b l)
-    go true = refl
-    go false = refl
+-- p says of an owner that it shows a region of the task that passes q
+module _ (t : ℕ) (q : Region → Bool) (p : Owner → Bool) (free : p Free ≡ false) (lower : (u : ℕ) (g : Region) → p (Lower u g) ≡ false) (upper : (u : ℕ) (g : Region) → p (Upper u g) ≡ (eqb u t && q g)) where
+  pub any_by : (o : Owner) (gs : List Region) → list_any q (held_by o t gs) ≡ (p o || list_any q gs)
+  any_by Free gs = ap (λ (x : Bool). x || list_any q gs) (sym free)
+  any_by (Lower u g) gs = ap (λ (x : Bool). x || list_any q gs) (sym (lower u g))
+  any_by (Upper u g) gs = go (eqb u t) ∙ ap (λ (x : Bool). x || list_any q gs) (sym (upper u g))
+    where
+      go : (x : Bool) → list_any q (cond x (g ∷ gs) gs) ≡ ((x && q g) || list_any q gs)
+      go true = refl
+      go false = refl
 
-pub overlaps_more : (os : List Owner) (t b l i : ℕ) → any_overlaps (held_below os t (i + 1)) b l ≡ (owner_overlaps t b l (owner_at os i) || any_overlaps (held_below os t i) b l)
+overlaps_below : (os : List Owner) (t b l n : ℕ) → n ≤ length os → list_any (owner_overlaps t b l) (take n os) ≡ any_overlaps (held_below os t n) b l
 unfolding held_below
-overlaps_more os t b l i = ap (λ (n : ℕ). any_overlaps (held_below os t n) b l) (add-one i) ∙ overlaps_by (owner_at os i) t b l (held_below os t i)
+overlaps_below os t b l zero h = refl
+overlaps_below os t b l (suc n) h =
+    ap (λ (k : ℕ). list_any (owner_overlaps t b l) (take k os)) (sym (add-one n))
+    ∙ list_any_more (owner_overlaps t b l) os n Free (omega arith)
+    ∙ or_comm (list_any (owner_overlaps t b l) (take n os)) (owner_overlaps t b l (owner_at os n))
+    ∙ ap (λ (x : Bool). owner_overlaps t b l (owner_at os n) || x) (overlaps_below os t b l n (omega arith))
+    ∙ sym (any_by t (λ g. overlapping g b l) (owner_overlaps t b l) refl (λ _ _. refl) (λ _ _. refl) (owner_at os n) (held_below os t n))
 
-count_by : (o : Owner) (t : ℕ) (gs : List Region) → length (held_by o t gs) ≡ cond (holds t o) (suc (length gs)) (length gs)
-count_by Free t gs = refl
-count_by (Lower u g) t gs = refl
-count_by (Upper u g) t gs = go (eqb u t)
+pub overlaps_any : (os : List Owner) (t b l : ℕ) → length os ≡ 64 → list_any (owner_overlaps t b l) os ≡ any_overlaps (held os t) b l
+overlaps_any os t b l h = ap (list_any (owner_overlaps t b l)) (sym (take_all 64 os (omega arith))) ∙ overlaps_below os t b l 64 (omega arith)
+
+length_by : (o : Owner) (t : ℕ) (gs : List Region) → length (held_by o t gs) ≡ length gs + cond (holds t o) 1 0
+length_by Free t gs = omega arith
+length_by (Lower u g) t gs = omega arith
+length_by (Upper u g) t gs = go (eqb u t)
   where
-    go : (x : Bool) → length (cond x (g ∷ gs) gs) ≡ cond x (suc (length gs)) (length gs)
-    go true = refl
-    go false = refl
+    go : (x : Bool) → length (cond x (g ∷ gs) gs) ≡ length gs + cond x 1 0
+    go true = omega arith
+    go false = omega arith
 
-count_next : (os : List Owner) (t i : ℕ) → length (held_below os t (i + 1)) ≡ cond (holds t (owner_at os i)) (suc (length (held_below os t i))) (length (held_below os t i))
+count_below : (os : List Owner) (t n : ℕ) → n ≤ length os → count_by (holds t) (take n os) ≡ length (held_below os t n)
 unfolding held_below
-count_next os t i = ap (λ (n : ℕ). length (held_below os t n)) (add-one i) ∙ count_by (owner_at os i) t (held_below os t i)
+count_below os t zero h = refl
+count_below os t (suc n) h =
+    let m = ap (λ (k : ℕ). count_by (holds t) (take k os)) (sym (add-one n)) ∙ sum_by_more (λ (o : Owner). cond (holds t o) 1 0) os n Free (omega arith) in
+    let i = count_below os t n (omega arith) in
+    let l = length_by (owner_at os n) t (held_below os t n) in
+    omega arith
 
-pub count_more : (os : List Owner) (t i : ℕ) → holds t (owner_at os i) ≡ true → length (held_below os t (i + 1)) ≡ length (held_below os t i) + 1
-count_more os t i e = let q = count_next os t i ∙ cond-true (holds t (owner_at os i)) _ _ e in omega arith
-
-pub count_same : (os : List Owner) (t i : ℕ) → holds t (owner_at os i) ≡ false → length (held_below os t (i + 1)) ≡ length (held_below os t i)
-count_same os t i e = count_next os t i ∙ cond-false (holds t (owner_at os i)) _ _ e
+pub count_held : (os : List Owner) (t : ℕ) → length os ≡ 64 → count_by (holds t) os ≡ length (held os t)
+count_held os t h = ap (count_by (holds t)) (sym (take_all 64 os (omega arith))) ∙ count_below os t 64 (omega arith)

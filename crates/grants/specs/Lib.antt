@@ -4,6 +4,7 @@ pub mod Owners
 pub mod Images
 pub mod Residence
 pub mod Resolving
+pub mod Once
 pub mod Standing
 pub mod Plans
 pub mod ResidentMeaning

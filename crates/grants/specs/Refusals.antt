@@ -1,8 +1,10 @@
 -- When a grant, a withdrawal or a selection is refused: the first case that holds gives its number. Assumes nothing.
-use Rattle.std.specs.Prelude.{◌≡◌, ℕ, ◌+◌, Bool, true, false, not, ◌&&◌, ◌||◌, List, [], ◌∷◌, length, Some, None, Option, Result, ◌==◌, nat_le, nat_lt}
+use Rattle.std.specs.Prelude.{◌≡◌, ℕ, ◌+◌, Bool, true, false, not, ◌&&◌, List, [], ◌∷◌, length, Some, None, Option, is_none, Result, ◌==◌, nat_le, nat_lt}
+use Rattle.std.specs.List.{list_any}
 use Rattle.access.specs.Cases.{Report, refused, first_of, Does}
 use Rattle.access.specs.Formed.{limit}
-use Rattle.grants.specs.Regions.{fitting, rights_of, form_of, overlapping}
+use Rattle.access.specs.Rights.{rights_of}
+use Rattle.grants.specs.Regions.{fitting, form_of, overlapping}
 use Rattle.grants.specs.declared.region.Region.{Region}
 use Rattle.grants.specs.declared.region.Form.{Form}
 use Rattle.grants.specs.declared.region.Form.TheVariants.{Na4, Napot, Pair}
@@ -20,10 +22,6 @@ grant_report TooManyRegions = refused 26 []
 grant_report NoRoom = refused 27 []
 grant_report NotHeld = refused 28 []
 
-abbrev pub is_none : {X : Type 0} → Option X → Bool
-is_none None = true
-is_none (Some x) = false
-
 abbrev pub is_pair : Form → Bool
 is_pair Na4 = false
 is_pair Napot = false
@@ -31,13 +29,11 @@ is_pair Pair = true
 
 -- One of the regions overlaps the l bytes from b.
 abbrev pub any_overlaps : List Region → ℕ → ℕ → Bool
-any_overlaps [] b l = false
-any_overlaps (g ∷ gs) b l = overlapping g b l || any_overlaps gs b l
+any_overlaps gs b l = list_any (λ g. overlapping g b l) gs
 
 -- One of the regions begins at b.
 abbrev pub any_begins : List Region → ℕ → Bool
-any_begins [] b = false
-any_begins (g ∷ gs) b = g.base == b || any_begins gs b
+any_begins gs b = list_any (λ g. g.base == b) gs
 
 -- A region that takes a pair and ends at the limit, which the upper entry's register cannot hold.
 abbrev pub formless : ℕ → ℕ → ℕ → Bool

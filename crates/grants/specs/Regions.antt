@@ -2,7 +2,7 @@
 use Rattle.std.specs.Prelude.{ℕ, zero, suc, ◌+◌, ◌-◌, ◌/◌, ◌%◌, ◌^◌, Bool, false, cond, not, ◌&&◌, ◌||◌, Some, None, Option, ◌==◌, nat_le, nat_lt}
 use Rattle.access.specs.Formed.{limit}
 use Rattle.access.specs.declared.access.Rights.{Rights}
-use Rattle.access.specs.declared.access.Rights.TheVariants.{R, RX, X, RW, RWX}
+use Rattle.access.specs.Rights.{rights_of}
 use Rattle.grants.specs.declared.region.Region.{Region}
 use Rattle.grants.specs.declared.region.Form.{Form}
 use Rattle.grants.specs.declared.region.Form.TheVariants.{Na4, Napot, Pair}
@@ -14,10 +14,6 @@ in_range f b l = nat_le (b + l) (limit f)
 -- Base and length are multiples of 4, the length is not 0, and the end is in range.
 abbrev pub fitting : ℕ → ℕ → ℕ → Bool
 fitting f b l = (b % 4 == 0 && l % 4 == 0) && (not (l == 0) && in_range f b l)
-
--- The set of rights that R 1, W 2 and X 4 add up to, if it is one of the five.
-abbrev pub rights_of : ℕ → Option Rights
-rights_of n = cond (n == 1) (Some R) (cond (n == 3) (Some RW) (cond (n == 4) (Some X) (cond (n == 5) (Some RX) (cond (n == 7) (Some RWX) None))))
 
 abbrev pub with_rights : ℕ → ℕ → Option Rights → Option Region
 with_rights b l None = None

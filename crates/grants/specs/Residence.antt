@@ -1,12 +1,12 @@
 -- A plan whose regions stay in their entries: what its calls answer, and what they leave. Assumes nothing.
-use Rattle.std.specs.Prelude.{◌≡◌, ℕ, Bool, true, false, not, List, Some, None, Option}
+use Rattle.std.specs.Prelude.{◌≡◌, ℕ, Bool, true, false, List, Some, None, Option, is_some}
 use Rattle.access.specs.Cases.{Report}
 use Rattle.book.specs.Books.{Book}
 use Rattle.table.specs.Registers.{Registers}
 use Rattle.grants.specs.Regions.{fitting, form_of, asked}
 use Rattle.grants.specs.Owners.{owner_at, held, room_for, found_at, occupied, vacated}
 use Rattle.grants.specs.Images.{byte_of, address_of, image}
-use Rattle.grants.specs.Refusals.{is_none, formless, grant_cases, withdraw_cases, select_cases, unless_refused}
+use Rattle.grants.specs.Refusals.{formless, grant_cases, withdraw_cases, select_cases, unless_refused}
 use Rattle.grants.specs.declared.region.Region.{Region}
 use Rattle.grants.specs.declared.region.Form.{Form}
 use Rattle.grants.specs.declared.owner.Owner.{Owner}
@@ -31,7 +31,7 @@ abbrev pub Resident : Book → Registers → List Owner → Option ℕ → Type 
 Resident b r os s = r ≡ image b os s
 
 abbrev pub has_room : List Owner → Form → Bool
-has_room os form = not (is_none (room_for os form))
+has_room os form = is_some (room_for os form)
 
 -- Why a grant is refused, if it is; there are sixteen tasks.
 abbrev pub grant_answer : ℕ → List Owner → ℕ → ℕ → ℕ → ℕ → Option Report

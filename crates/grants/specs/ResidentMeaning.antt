@@ -6,7 +6,7 @@ use Rattle.grants.specs.Regions.{form_of}
 use Rattle.grants.specs.Images.{image}
 use Rattle.grants.specs.Residence.{has_room, after_grant, after_withdraw, after_select}
 use Rattle.grants.specs.Plans.{PlanTerms, PlanMeaning, PlanLaws}
-use Rattle.grants.specs.Standing.{PlanImaged}
+use Rattle.grants.specs.Standing.{owners_of}
 use Rattle.grants.specs.declared.owner.Owner.{Owner}
 use Rattle.grants.specs.declared.owner.Owner.TheVariants.{Free}
 use Rattle.grants.specs.declared.resident.ResidentPlan.{ResidentPlan}
@@ -44,6 +44,5 @@ resident_plan f b = record { terms = resident_terms f; entries = λ cs. image b 
 pub record ResidentStands {B : Type 0} {f : ℕ} {g : Ghosts B} (b : Book) (p : ResidentPlan B f g) (cs : List PlanCall) : Type 0 where
   pub book_laws : Laws b
   pub plan_laws : PlanLaws f b (resident_plan f b)
-  pub owners : p.owners.cells ≡ owners_after f cs
+  pub owners : owners_of p ≡ owners_after f cs
   pub selection : p.selected ≡ selection_after cs
-  pub registers : PlanImaged b p

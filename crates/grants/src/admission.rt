@@ -5,10 +5,11 @@ ghost use Rattle.grants.specs.Regions.{asked};
 ghost use Rattle.grants.specs.Owners.{held};
 ghost use Rattle.grants.specs.Refusals.{grant_report, grant_cases};
 
-use super::forms::{has_no_form, is_region, rights_of};
+use super::forms::is_region;
 use super::owner::Owners;
 use super::refusal::GrantRefusal;
 use super::region::Region;
+use access::access::Rights;
 use access::field_bits::FieldBits;
 
 // The number of tasks, and how many regions each can hold.
@@ -34,22 +35,20 @@ impl Owners {
         if !is_region(bits, base, length) {
             return Err(GrantRefusal::NotARegion);
         }
-        let Some(rights) = rights_of(rights) else {
-            return Err(GrantRefusal::NotARightsSet);
+        let region = Region {
+            base,
+            length,
+            rights: Rights::try_from(rights).map_err(|_| GrantRefusal::NotARightsSet)?,
         };
-        if self.any_overlaps(task, base, length) {
+        if self.any_overlaps(task, &region) {
             return Err(GrantRefusal::Overlap);
         }
-        if has_no_form(bits, base, length) {
+        if region.has_no_form(bits) {
             return Err(GrantRefusal::NoForm);
         }
         if self.regions_of(task) >= REGIONS {
             return Err(GrantRefusal::TooManyRegions);
         }
-        Ok(Region {
-            base,
-            length,
-            rights,
-        })
+        Ok(region)
     }
 }

@@ -1,7 +1,7 @@
 // The calls that alter a plan.
 
 // A call changes which regions tasks hold, or which task is selected.
-#[derive(Clone, Copy)]
+#[derive(Clone, Copy, PartialEq, Eq, Debug)]
 pub enum PlanCall {
     Grant {
         task: u64,

@@ -4,6 +4,7 @@
 pub mod admission;
 pub mod call;
 mod calls;
+pub mod entries;
 pub mod forms;
 mod listing;
 pub mod owner;

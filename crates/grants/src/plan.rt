@@ -8,10 +8,12 @@ ghost use Rattle.grants.specs.declared.call.PlanCall.{PlanCall};
 ghost use Rattle.grants.specs.declared.call.PlanCall.TheVariants.{Grant, Withdraw, Select};
 
 use super::refusal::GrantRefusal;
-use access::access::{Kind, Mode};
+use access::access::Request;
 use access::refusal::Refusal;
 
 // Regions are granted to tasks and withdrawn, and a selected task's regions are active.
+// A grant's four numbers are the call's own, the rights too, since every number gets an answer: a struct of them would be made at each call
+// and taken apart in it.
 pub trait Plan<const F: u32> {
     // What a plan is made from.
     type Start;
@@ -20,7 +22,7 @@ pub trait Plan<const F: u32> {
 
     ghost plan: { PlanMeaning };
 
-    // This plan is as these calls leave it, the newest first.
+    // This plan is as these calls leave it, the newest first. No field says so: a plan does not keep its calls.
     ghost stands: { Self → List PlanCall → Type 0 };
 
     // A plan on which any calls were made keeps the laws.
@@ -46,13 +48,6 @@ pub trait Plan<const F: u32> {
         ensures after { (cs : List PlanCall) → stands self.old cs → stands self.new (Select task ∷ cs) };
 
     // Checks an access: the entry that passes it, 64 for none, or why it is refused.
-    fn check(
-        &self,
-        mode: Mode,
-        sum: bool,
-        kind: Kind,
-        address: u64,
-        width: u64,
-    ) -> Result<u8, Refusal>
-        ensures { (cs : List PlanCall) → stands self.now cs → Checked F book (plan.entries cs) mode sum kind address width result };
+    fn check(&self, request: Request) -> Result<u8, Refusal>
+        ensures { (cs : List PlanCall) → stands self.now cs → Checked F book (plan.entries cs) request.mode request.sum request.kind request.address request.width result };
 }

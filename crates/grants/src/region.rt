@@ -2,7 +2,7 @@
 use access::access::Rights;
 
 // The `length` bytes from `base`, and what their holder may do there.
-#[derive(Clone, Copy)]
+#[derive(Clone, Copy, PartialEq, Eq, Debug)]
 pub struct Region {
     pub base: u64,
     pub length: u64,
@@ -10,7 +10,7 @@ pub struct Region {
 }
 
 // How entries show a region.
-#[derive(Clone, Copy)]
+#[derive(Clone, Copy, PartialEq, Eq, Debug)]
 pub enum Form {
     // One entry of four bytes.
     Na4,

@@ -1,13 +1,13 @@
 // The numbers of refusals.
-ghost use Rattle.std.specs.Prelude.{◌≡◌};
 ghost use Rattle.grants.specs.Refusals.{grant_report};
 
 use super::refusal::GrantRefusal;
+use access::numbered::Numbered;
 
-impl GrantRefusal {
-    pub fn number(self) -> u8
-        ensures { result ≡ (grant_report self).number }
-    {
+impl Numbered for GrantRefusal {
+    ghost report = { grant_report };
+
+    fn number(self) -> u8 {
         match self {
             GrantRefusal::NoSuchTask => 21,
             GrantRefusal::NotARegion => 22,

@@ -1,10 +1,10 @@
-// The plan whose regions stay in their entries, as a plan.
+// The plan whose regions stay in their entries, as a plan. Its own calls of the same names promise more: owners and registers.
 ghost use Rattle.grants.specs.ResidentMeaning.{resident_plan, ResidentStands};
 
 use super::plan::Plan;
 use super::refusal::GrantRefusal;
 use super::resident::ResidentPlan;
-use access::access::{Kind, Mode};
+use access::access::Request;
 use access::field_bits::FieldBits;
 use access::refusal::Refusal;
 use book::book::RuleBook;
@@ -42,14 +42,7 @@ impl<B: RuleBook, const F: u32> Plan<F> for ResidentPlan<B, F> {
         self.select(task)
     }
 
-    fn check(
-        &self,
-        mode: Mode,
-        sum: bool,
-        kind: Kind,
-        address: u64,
-        width: u64,
-    ) -> Result<u8, Refusal> {
-        self.check(mode, sum, kind, address, width)
+    fn check(&self, request: Request) -> Result<u8, Refusal> {
+        self.check(request)
     }
 }

@@ -5,66 +5,48 @@ ghost use Rattle.grants.specs.Images.{switch_bits};
 ghost use Rattle.grants.specs.Refusals.{any_overlaps};
 
 use super::owner::{Owner, Owners};
-use super::region::Form;
+use super::region::{Form, Region};
 
 impl Owners {
     // The owner of entry n; there is none past 63.
     pub fn at(&self, n: usize) -> Owner
         ensures { result ≡ owner_at self.now.cells n }
     {
-        match self.cells.get(n) {
-            Some(owner) => *owner,
-            None => Owner::Free,
-        }
+        self.cells.get(n).copied().unwrap_or(Owner::Free)
     }
 
     // Whether a region that the task holds overlaps.
-    pub(crate) fn any_overlaps(&self, task: u64, base: u64, length: u64) -> bool
-        requires { 0 < length }
-        ensures { result ≡ any_overlaps (held self.now.cells task) base length }
+    pub(crate) fn any_overlaps(&self, task: u64, region: &Region) -> bool
+        requires { 0 < region.now.length }
+        ensures { result ≡ any_overlaps (held self.now.cells task) region.now.base region.now.length }
     {
-        let mut found = false;
-        for i in 0..64 {
-            found = self.cells[i].overlaps(task, base, length) | found;
-        }
-        found
+        self.cells.iter().any(|owner| owner.overlaps(task, region))
     }
 
     // How many regions the task holds.
     pub fn regions_of(&self, task: u64) -> usize
         ensures { result ≡ count (held self.now.cells task) }
     {
-        let mut n: usize = 0;
-        for i in 0..64 {
-            if self.cells[i].holds_for(task) {
-                n += 1;
-            }
-        }
-        n
+        self.cells
+            .iter()
+            .filter(|owner| owner.holds_for(task))
+            .count()
     }
 
     // The lowest free entry.
     fn lowest_free(&self) -> Option<usize>
         ensures { result ≡ lowest (free_at self.now.cells) 64 }
     {
-        for i in 0..64 {
-            if self.cells[i].is_free() {
-                return Some(i);
-            }
-        }
-        None
+        self.cells.iter().position(|owner| owner.is_free())
     }
 
     // The lower of the lowest free neighbours.
     fn lowest_pair(&self) -> Option<usize>
         ensures { result ≡ lowest (free_pair_at self.now.cells) 63 }
     {
-        for i in 0..63 {
-            if self.cells[i].is_free() & self.cells[i + 1].is_free() {
-                return Some(i);
-            }
-        }
-        None
+        self.cells
+            .array_windows::<2>()
+            .position(|[lower, upper]| lower.is_free() && upper.is_free())
     }
 
     // The lowest room for a region of a form.
@@ -72,8 +54,7 @@ impl Owners {
         ensures { result ≡ room_for self.now.cells form }
     {
         match form {
-            Form::Na4 => self.lowest_free(),
-            Form::Napot => self.lowest_free(),
+            Form::Na4 | Form::Napot => self.lowest_free(),
             Form::Pair => self.lowest_pair(),
         }
     }
@@ -83,12 +64,9 @@ impl Owners {
         ensures value { result ≡ found_at self.now.cells task base }
         ensures lowest { LowestFound }
     {
-        for i in 0..64 {
-            if self.cells[i].begins_at(task, base) {
-                return Some(i);
-            }
-        }
-        None
+        self.cells
+            .iter()
+            .position(|owner| owner.begins_at(task, base))
     }
 
     // The switch bits of all entries under a selection: bit i is that of entry i.
@@ -96,9 +74,9 @@ impl Owners {
         ensures { result ≡ switch_bits self.now.cells selected }
     {
         let mut bits: u64 = 0;
-        for i in 0..64 {
-            if self.cells[i].is_on(selected) {
-                bits = bits | 1 << i;
+        for (i, owner) in self.cells.iter().enumerate() {
+            if owner.is_on(selected) {
+                bits |= 1 << i;
             }
         }
         bits

@@ -1,4 +1,3 @@
 pub mod SumBit
 pub mod Unselected
 pub mod TaskAnswers
-pub mod Following

@@ -1,9 +1,9 @@
 -- Before a selection no access of user mode passes, and one that is well formed is stopped with no entry deciding. Assumes nothing.
-use Rattle.std.proofs.Common.{◌≡◌, ℕ, ◌+◌, ◌<◌, ◌≤◌, Bool, true, false, not, List, [], ◌∷◌, Some, None, Ok, Err, Option, ap, ◌∙◌, subst, ⊎_elim, arith}
+use Rattle.std.proofs.Common.{◌≡◌, ℕ, ◌<◌, ◌≤◌, Bool, true, false, List, Some, None, Ok, Err, Option, ap, ◌∙◌, subst, ⊎_elim, arith}
 use Rattle.std.proofs.lemmas.Bool.{cases_lt, le-ltb, both_ways}
 use Rattle.std.proofs.lemmas.Bool.Decides.{when_false}
-use Rattle.access.specs.Cases.{Report, refused, first_of}
-use Rattle.access.specs.Formed.{limit, WellFormed, ill_formed}
+use Rattle.access.specs.Cases.{Report}
+use Rattle.access.specs.Formed.{WellFormed, ill_formed}
 use Rattle.access.specs.Refusals.{report_of, stopped}
 use Rattle.access.specs.declared.access.Kind.{Kind}
 use Rattle.access.specs.declared.access.Mode.TheVariants.{User}
@@ -13,10 +13,7 @@ use Rattle.table.specs.Registers.{Registers, bounds_at}
 use Rattle.table.specs.Checks.{EveryByte, active, Deciding, PassesWith, RefusedAs, Checked}
 use Rattle.grants.specs.Plans.{PlanMeaning, PlanLaws, ShownFor, held_after, selected_after}
 use Rattle.grants.specs.declared.call.PlanCall.{PlanCall}
-
--- nothing is wrong with a well-formed access
-none_wrong : (f : ℕ) (k : Kind) (a w : ℕ) → WellFormed f k a w → ill_formed f k a w ≡ None
-none_wrong f k a w z = let r = le-ltb (limit f) (a + w) z.1 in λ i. first_of ((not (z.0 i), refused 41 []) ∷ (r i, refused 42 []) ∷ [])
+use Rattle.grants.proofs.Passing.{none_wrong}
 
 -- where no entry is active
 module _ (b : Book) (l : Laws b) (r : Registers) (off : (i : ℕ) → i < 64 → active r i ≡ false) (sum : Bool) (k : Kind) (a w : ℕ) where

@@ -1,4 +1,4 @@
-// A hart in supervisor mode and one in user mode, as two types.
+// A hart in supervisor mode and one in user mode, as two types: a call that the mode does not allow does not compile.
 
 // A hart in supervisor mode: it makes calls on its plan and enters the selected task.
 #[derive(Drop)]

@@ -3,7 +3,7 @@ ghost use Rattle.std.specs.Prelude.{◌≡◌};
 ghost use Rattle.hart.specs.Status.{sum_of, with_sum, SumAlone};
 
 // A status word as sstatus has it: while SUM is set, the supervisor may load and store in user memory.
-#[derive(Clone, Copy)]
+#[derive(Clone, Copy, PartialEq, Eq, Debug)]
 pub struct Status {
     word: u32,
 }

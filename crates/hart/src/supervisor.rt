@@ -1,5 +1,7 @@
 // A hart in supervisor mode: the calls on its plan, the supervisor's accesses, and the entry into a task.
 ghost use Rattle.std.specs.Prelude.{◌≡◌, List, [], ◌∷◌};
+ghost use Rattle.access.specs.Kinds.{kind_of};
+ghost use Rattle.access.specs.declared.access.Mode.{Mode};
 ghost use Rattle.memory.specs.Effects.{value_at};
 ghost use Rattle.grants.specs.Plans.{answer_after};
 ghost use Rattle.grants.specs.Refusals.{Answered};
@@ -11,7 +13,7 @@ ghost use Rattle.hart.specs.Status.{sum_of};
 use super::harts::{SupervisorHart, UserHart};
 use super::status::Status;
 use super::transfers;
-use access::access::{Kind, Mode};
+use access::access::{Kind, Reading, Request};
 use access::refusal::Refusal;
 use grants::plan::Plan;
 use grants::refusal::GrantRefusal;
@@ -71,48 +73,21 @@ impl<P> SupervisorHart<P> {
         self.plan.select(task)
     }
 
-    // Loads a value for the supervisor.
-    pub fn load<M: Memory<F>, const F: u32>(
+    // Loads a value for the supervisor, or fetches an instruction.
+    pub fn read<M: Memory<F>, const F: u32>(
         &self,
         status: &Status,
         memory: &M,
+        reading: Reading,
         address: u64,
         width: u64,
     ) -> Result<u64, Refusal>
     where
         P: Plan<F>,
-        ensures { (cs : List PlanCall) → P.Plan.stands self.now.plan cs → AccessAnswer F P.Plan.book (P.Plan.plan.entries cs) (M.Memory.meaning memory.now) Mode.Supervisor (sum_of status.now.word) Kind.Load address width (value_at (M.Memory.meaning memory.now).byte address width) result }
+        ensures { (cs : List PlanCall) → P.Plan.stands self.now.plan cs → AccessAnswer F P.Plan.book (P.Plan.plan.entries cs) (M.Memory.meaning memory.now) Mode.Supervisor (sum_of status.now.word) (kind_of reading) address width (value_at (M.Memory.meaning memory.now).byte address width) result }
     {
-        transfers::load(
-            &self.plan,
-            memory,
-            Mode::Supervisor,
-            status.sum(),
-            address,
-            width,
-        )
-    }
-
-    // Fetches an instruction for the supervisor.
-    pub fn fetch<M: Memory<F>, const F: u32>(
-        &self,
-        status: &Status,
-        memory: &M,
-        address: u64,
-        width: u64,
-    ) -> Result<u64, Refusal>
-    where
-        P: Plan<F>,
-        ensures { (cs : List PlanCall) → P.Plan.stands self.now.plan cs → AccessAnswer F P.Plan.book (P.Plan.plan.entries cs) (M.Memory.meaning memory.now) Mode.Supervisor (sum_of status.now.word) Kind.Fetch address width (value_at (M.Memory.meaning memory.now).byte address width) result }
-    {
-        transfers::fetch(
-            &self.plan,
-            memory,
-            Mode::Supervisor,
-            status.sum(),
-            address,
-            width,
-        )
+        let request = Request::supervisor(status.sum(), reading.into(), address, width);
+        transfers::read(&self.plan, memory, reading, request)
     }
 
     // Stores the low bytes of a value for the supervisor.
@@ -130,22 +105,14 @@ impl<P> SupervisorHart<P> {
         ensures after { M.Memory.meaning memory.new ≡ after_store (M.Memory.meaning memory.old) address width value result }
         ensures borrows { M.Memory.lenders memory.new ≡ M.Memory.lenders memory.old }
     {
-        transfers::store(
-            &self.plan,
-            memory,
-            Mode::Supervisor,
-            status.sum(),
-            address,
-            width,
-            value,
-        )
+        let request = Request::supervisor(status.sum(), Kind::Store, address, width);
+        transfers::store(&self.plan, memory, request, value)
     }
 
     // Enters the selected task.
     pub fn enter(self) -> UserHart<P>
         ensures { result.plan ≡ self.plan }
     {
-        let SupervisorHart { plan } = self;
-        UserHart { plan }
+        UserHart { plan: self.plan }
     }
 }

@@ -1,5 +1,7 @@
 // A hart in user mode: the accesses of the selected task, and the trap that ends them.
 ghost use Rattle.std.specs.Prelude.{◌≡◌, false, List};
+ghost use Rattle.access.specs.Kinds.{kind_of};
+ghost use Rattle.access.specs.declared.access.Mode.{Mode};
 ghost use Rattle.memory.specs.Effects.{value_at};
 ghost use Rattle.grants.specs.declared.call.PlanCall.{PlanCall};
 ghost use Rattle.hart.specs.Accesses.{AccessAnswer, after_store};
@@ -7,42 +9,28 @@ ghost use Rattle.hart.specs.Tasks.{TaskPasses, StoppedUnselected};
 
 use super::harts::{SupervisorHart, UserHart};
 use super::transfers;
-use access::access::{Kind, Mode};
+use access::access::{Kind, Reading, Request};
 use access::refusal::Refusal;
 use grants::plan::Plan;
 use memory::memory::Memory;
 
 impl<P> UserHart<P> {
-    // Loads a value for the task.
-    pub fn load<M: Memory<F>, const F: u32>(
+    // Loads a value for the task, or fetches an instruction.
+    pub fn read<M: Memory<F>, const F: u32>(
         &self,
         memory: &M,
+        reading: Reading,
         address: u64,
         width: u64,
     ) -> Result<u64, Refusal>
     where
         P: Plan<F>,
-        ensures answer { (cs : List PlanCall) → P.Plan.stands self.now.plan cs → AccessAnswer F P.Plan.book (P.Plan.plan.entries cs) (M.Memory.meaning memory.now) Mode.User false Kind.Load address width (value_at (M.Memory.meaning memory.now).byte address width) result }
-        ensures passes { (cs : List PlanCall) → P.Plan.stands self.now.plan cs → TaskPasses F P.Plan.plan cs (M.Memory.meaning memory.now) Kind.Load address width result }
-        ensures unselected { (cs : List PlanCall) → P.Plan.stands self.now.plan cs → StoppedUnselected F P.Plan.plan cs Kind.Load address width result }
+        ensures answer { (cs : List PlanCall) → P.Plan.stands self.now.plan cs → AccessAnswer F P.Plan.book (P.Plan.plan.entries cs) (M.Memory.meaning memory.now) Mode.User false (kind_of reading) address width (value_at (M.Memory.meaning memory.now).byte address width) result }
+        ensures passes { (cs : List PlanCall) → P.Plan.stands self.now.plan cs → TaskPasses F P.Plan.plan cs (M.Memory.meaning memory.now) (kind_of reading) address width result }
+        ensures unselected { (cs : List PlanCall) → P.Plan.stands self.now.plan cs → StoppedUnselected F P.Plan.plan cs (kind_of reading) address width result }
     {
-        transfers::load(&self.plan, memory, Mode::User, false, address, width)
-    }
-
-    // Fetches an instruction for the task.
-    pub fn fetch<M: Memory<F>, const F: u32>(
-        &self,
-        memory: &M,
-        address: u64,
-        width: u64,
-    ) -> Result<u64, Refusal>
-    where
-        P: Plan<F>,
-        ensures answer { (cs : List PlanCall) → P.Plan.stands self.now.plan cs → AccessAnswer F P.Plan.book (P.Plan.plan.entries cs) (M.Memory.meaning memory.now) Mode.User false Kind.Fetch address width (value_at (M.Memory.meaning memory.now).byte address width) result }
-        ensures passes { (cs : List PlanCall) → P.Plan.stands self.now.plan cs → TaskPasses F P.Plan.plan cs (M.Memory.meaning memory.now) Kind.Fetch address width result }
-        ensures unselected { (cs : List PlanCall) → P.Plan.stands self.now.plan cs → StoppedUnselected F P.Plan.plan cs Kind.Fetch address width result }
-    {
-        transfers::fetch(&self.plan, memory, Mode::User, false, address, width)
+        let request = Request::user(reading.into(), address, width);
+        transfers::read(&self.plan, memory, reading, request)
     }
 
     // Stores the low bytes of a value for the task.
@@ -61,14 +49,14 @@ impl<P> UserHart<P> {
         ensures after { M.Memory.meaning memory.new ≡ after_store (M.Memory.meaning memory.old) address width value result }
         ensures borrows { M.Memory.lenders memory.new ≡ M.Memory.lenders memory.old }
     {
-        transfers::store(&self.plan, memory, Mode::User, false, address, width, value)
+        let request = Request::user(Kind::Store, address, width);
+        transfers::store(&self.plan, memory, request, value)
     }
 
     // Leaves the task for the supervisor.
     pub fn trap(self) -> SupervisorHart<P>
         ensures { result.plan ≡ self.plan }
     {
-        let UserHart { plan } = self;
-        SupervisorHart { plan }
+        SupervisorHart { plan: self.plan }
     }
 }

@@ -6,6 +6,7 @@ ghost use Rattle.hart.specs.Through.{ThroughAnswer};
 use super::harts::SupervisorHart;
 use super::status::Status;
 use super::window::Window;
+use access::access::Reading;
 use access::refusal::Refusal;
 use grants::plan::Plan;
 use memory::memory::Memory;
@@ -21,6 +22,6 @@ pub fn load_through<P: Plan<F>, M: Memory<F>, const F: u32>(
     ensures word { status.new.word ≡ status.old.word }
 {
     let window = Window::open(status);
-    let address = hart.load(window.status(), memory, pointer, 4)?;
-    hart.load(window.status(), memory, address, 4)
+    let address = hart.read(window.status(), memory, Reading::Load, pointer, 4)?;
+    hart.read(window.status(), memory, Reading::Load, address, 4)
 }

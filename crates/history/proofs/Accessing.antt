@@ -1,5 +1,5 @@
 -- The answer to an access: that it passes or is refused, and that there is one.
-use Rattle.std.proofs.Common.{◌≡◌, ℕ, Bool, true, ◌⊎◌, Ok, Err, Result, sym, refl, ap, ◌∙◌, subst, inl, inr, ⊎_elim}
+use Rattle.std.proofs.Common.{◌≡◌, ℕ, Bool, true, ◌⊎◌, Ok, Err, Result, sym, refl, ap, ◌∙◌, inl, inr, ⊎_elim}
 use Rattle.std.proofs.lemmas.Bool.{false≢true, true≢false}
 use Rattle.access.specs.Refusals.{not_admitted}
 use Rattle.access.specs.declared.access.Kind.{Kind}
@@ -46,61 +46,44 @@ module _ (f : ℕ) (b : Book) (r : Registers) (mode : Mode) (sum : Bool) (x : Ac
   checked_one : (c d : Result ℕ Refusal) → Checked f b r mode sum (kind_of x) (address_of x) (width_of x) c → Checked f b r mode sum (kind_of x) (address_of x) (width_of x) d → c ≡ d
   checked_one c d p q = one_answer f b r mode sum (kind_of x) (address_of x) (width_of x) c d p q
 
-  -- the entry of a check that passes, and the refusal of one that does not
-  abbrev entry_of : Result ℕ Refusal → ℕ
-  entry_of (Ok e) = e
-  entry_of (Err y) = 0
-
-  abbrev refusal_or : Refusal → Result ℕ Refusal → Refusal
-  refusal_or d (Ok e) = d
-  refusal_or d (Err y) = y
-
-  ok_err : (e : ℕ) (y : Refusal) → Ok e ≡ Err y → ⊥
-  ok_err e y q = subst IsOk q tt
-    where
-      IsOk : Result ℕ Refusal → Type 0
-      IsOk (Ok e) = Unit {0}
-      IsOk (Err y) = ⊥
-
   module _ (m n : MemoryMeaning) (same : (k : Kind) (a w : ℕ) → m.admits k a w ≡ n.admits k a w) where
     same_here : m.admits (kind_of x) (address_of x) (width_of x) ≡ n.admits (kind_of x) (address_of x) (width_of x)
     same_here = same (kind_of x) (address_of x) (width_of x)
 
     not_both : PassesIn m → (y : Refusal) → RefusedIn n y → ⊥
-    not_both p y (inl c) = ok_err p.entry y (checked_one (Ok p.entry) (Err y) p.checked c)
+    not_both p y (inl c) = let q = checked_one (Ok p.entry) (Err y) p.checked c in cc
     not_both p y (inr d) = true≢false (sym p.admitted ∙ same_here ∙ d.declined)
 
     one_refused : (y z : Refusal) → RefusedIn m y → RefusedIn n z → y ≡ z
-    one_refused y z (inl c) (inl d) = ap (refusal_or y) (checked_one (Err y) (Err z) c d)
-    one_refused y z (inl c) (inr d) = absurd (ok_err d.entry y (checked_one (Ok d.entry) (Err y) d.checked c))
-    one_refused y z (inr c) (inl d) = absurd (ok_err c.entry z (checked_one (Ok c.entry) (Err z) c.checked d))
+    one_refused y z (inl c) (inl d) = let q = checked_one (Err y) (Err z) c d in cc
+    one_refused y z (inl c) (inr d) = let q = checked_one (Ok d.entry) (Err y) d.checked c in cc
+    one_refused y z (inr c) (inl d) = let q = checked_one (Ok c.entry) (Err z) c.checked d in cc
     one_refused y z (inr c) (inr d) =
-        let e : c.entry ≡ d.entry = ap entry_of (checked_one (Ok c.entry) (Ok d.entry) c.checked d.checked) in
+        let q = checked_one (Ok c.entry) (Ok d.entry) c.checked d.checked in
+        let e : c.entry ≡ d.entry = cc in
         report_one y z (c.reported ∙ ap (not_admitted (kind_of x) (address_of x)) e ∙ sym d.reported)
 
   module _ (m n : MemoryMeaning) (same : (k : Kind) (a w : ℕ) → m.admits k a w ≡ n.admits k a w) (a c : Answer) (p : Accessed f b r m mode sum x a) (q : Accessed f b r n mode sum x c) where
-    -- whether an access passes does not depend on what the memory holds
-    pub passed_same : passed a ≡ passed c
-    passed_same = ⊎_elim
+    -- the access passes in both memories, or is refused in both with one refusal
+    both : (PassesIn m × (a ≡ given m.byte x) × (c ≡ given n.byte x)) ⊎ ((y : Refusal) × (a ≡ Refused y) × (c ≡ Refused y))
+    both = ⊎_elim
         (λ u. ⊎_elim
-        (λ v. ap passed u.1 ∙ given_passed m.byte x ∙ sym (ap passed v.1 ∙ given_passed n.byte x))
+        (λ v. inl (u.0, u.1, v.1))
         (λ v. absurd (not_both m n same u.0 v.0 v.2))
         (accessed_cases n c q))
         (λ u. ⊎_elim
         (λ v. absurd (not_both n m (λ k a w. sym (same k a w)) v.0 u.0 u.2))
-        (λ v. ap passed u.1 ∙ sym (ap passed v.1))
+        (λ v. inr (v.0, u.1 ∙ ap Refused (one_refused m n same u.0 v.0 u.2 v.2), v.1))
         (accessed_cases n c q))
         (accessed_cases m a p)
 
+    -- whether an access passes does not depend on what the memory holds
+    pub passed_same : passed a ≡ passed c
+    passed_same = ⊎_elim
+        (λ u. ap passed u.1 ∙ given_passed m.byte x ∙ sym (ap passed u.2 ∙ given_passed n.byte x))
+        (λ u. ap passed (u.1 ∙ sym u.2))
+        both
+
     -- where a passed access gives the same, so is the answer
     pub accessed_same : (PassesIn m → given m.byte x ≡ given n.byte x) → a ≡ c
-    accessed_same gives = ⊎_elim
-        (λ u. ⊎_elim
-        (λ v. u.1 ∙ gives u.0 ∙ sym v.1)
-        (λ v. absurd (not_both m n same u.0 v.0 v.2))
-        (accessed_cases n c q))
-        (λ u. ⊎_elim
-        (λ v. absurd (not_both n m (λ k a w. sym (same k a w)) v.0 u.0 u.2))
-        (λ v. u.1 ∙ ap Refused (one_refused m n same u.0 v.0 u.2 v.2) ∙ sym v.1)
-        (accessed_cases n c q))
-        (accessed_cases m a p)
+    accessed_same gives = ⊎_elim (λ u. u.1 ∙ gives u.0 ∙ sym u.2) (λ u. u.1 ∙ sym u.2) both

@@ -1,16 +1,17 @@
 -- A run's history and its plan say the same of selection and regions.
-use Rattle.std.proofs.Common.{◌≡◌, ℕ, Bool, true, false, cond, eqb, ◌⊎◌, ◌↔◌, List, [], ◌∷◌, Some, None, Option, sym, refl, ap, ◌∙◌, subst, inl, inr, ⊎_elim}
-use Rattle.std.proofs.lemmas.Bool.{false≢true, eqb-true, eqb-false, eq-eqb}
+use Rattle.std.proofs.Common.{◌≡◌, ℕ, Bool, true, false, cond, eqb, ◌⊎◌, ◌↔◌, List, [], ◌∷◌, Some, None, Option, sym, refl, ap, ◌∙◌, subst, inl, inr, ⊎_elim, is_none}
+use Rattle.std.proofs.lemmas.Bool.{cond_both, cond-true, cond-false, false≢true, eqb-true, eqb-false, eq-eqb}
 use Rattle.access.specs.Cases.{Report}
 use Rattle.book.specs.Books.{Book}
 use Rattle.memory.specs.Meaning.{MemoryMeaning}
 use Rattle.grants.specs.Regions.{asked}
-use Rattle.grants.specs.Refusals.{is_none, unless_refused}
+use Rattle.grants.specs.Refusals.{unless_refused}
 use Rattle.grants.specs.Resolving.{In}
 use Rattle.grants.specs.Plans.{PlanMeaning, Holdings, with_region, without, held_with, selected_with, held_after, answer_after, selected_after}
 use Rattle.grants.specs.declared.region.Region.{Region}
 use Rattle.grants.specs.declared.call.PlanCall.{PlanCall}
 use Rattle.grants.specs.declared.call.PlanCall.TheVariants.{Grant, Withdraw, Select}
+use Rattle.grants.proofs.Passing.{without_parts}
 use Rattle.history.specs.declared.call.Call.{Call}
 use Rattle.history.specs.declared.call.Call.TheVariants.{Plan, Supervisor, Enter, Trap, Task}
 use Rattle.history.specs.declared.call.Answer.{Answer}
@@ -32,8 +33,8 @@ selected_plan (Grant u b l r) a None q s t e = e
 selected_plan (Grant u b l r) a (Some x) q s t e = e
 selected_plan (Withdraw u b) a None q s t e = e
 selected_plan (Withdraw u b) a (Some x) q s t e = e
-selected_plan (Select u) a None q s t e = ap (λ (z : Bool). cond z (Some u) s) q
-selected_plan (Select u) a (Some x) q s t e = ap (λ (z : Bool). cond z (Some u) s) q ∙ e
+selected_plan (Select u) a None q s t e = cond-true _ _ _ q
+selected_plan (Select u) a (Some x) q s t e = cond-false _ _ _ q ∙ e
 
 -- ---- the regions of a task
 
@@ -49,15 +50,6 @@ with_either None gs g i = inr i
 with_either (Some k) gs g (inl e) = inl (ap Some (sym e))
 with_either (Some k) gs g (inr i) = inr i
 
-without_parts : (b : ℕ) (gs : List Region) (g : Region) → In g (without b gs) → In g gs × (g.base ≡ b → ⊥)
-without_parts b [] g i = absurd i
-without_parts b (k ∷ gs) g i = go (eqb k.base b) refl (without_parts b gs g) i
-  where
-    go : (x : Bool) → eqb k.base b ≡ x → (In g (without b gs) → In g gs × (g.base ≡ b → ⊥)) → In g (cond x (without b gs) (k ∷ without b gs)) → In g (k ∷ gs) × (g.base ≡ b → ⊥)
-    go true q ih i = let p = ih i in (inr p.0, p.1)
-    go false q ih (inl e) = (inl e, λ h. eqb-false k.base b q (ap (λ (z : Region). z.base) (sym e) ∙ h))
-    go false q ih (inr i) = let p = ih i in (inr p.0, p.1)
-
 without_kept : (b : ℕ) (gs : List Region) (g : Region) → In g gs → (g.base ≡ b → ⊥) → In g (without b gs)
 without_kept b [] g i n = i
 without_kept b (k ∷ gs) g i n = go (eqb k.base b) refl (λ j. without_kept b gs g j n) i
@@ -68,41 +60,32 @@ without_kept b (k ∷ gs) g i n = go (eqb k.base b) refl (λ j. without_kept b g
     go false q ih (inl e) = inl e
     go false q ih (inr i) = inr (ih i)
 
--- in one of two lists, by a test
-in_cond : (x : Bool) (gs hs : List Region) (g : Region) → (x ≡ true → In g gs) → (x ≡ false → In g hs) → In g (cond x gs hs)
-in_cond true gs hs g f h = f refl
-in_cond false gs hs g f h = h refl
-
-of_cond : {C : Type 0} (x : Bool) (gs hs : List Region) (g : Region) → (x ≡ true → In g gs → C) → (x ≡ false → In g hs → C) → In g (cond x gs hs) → C
-of_cond true gs hs g f h i = f refl i
-of_cond false gs hs g f h i = h refl i
-
 module _ (a : Answer) (t : ℕ) (g : Region) (H : Type 0) (hs : Holdings) (same : H ↔ In g (hs t)) where
   granted_held : (u b l r : ℕ) → passed a ≡ true → ((GrantedByPlan (Grant u b l r) a t g ⊎ (H × ¬ ⊥)) ↔ In g (cond (eqb u t) (with_region (asked b l r) (hs t)) (hs t)))
   granted_held u b l r ok = (to, from)
     where
       to : (GrantedByPlan (Grant u b l r) a t g ⊎ (H × ¬ ⊥)) → In g (cond (eqb u t) (with_region (asked b l r) (hs t)) (hs t))
       to (inl x) = subst (λ (z : Bool). In g (cond z (with_region (asked b l r) (hs t)) (hs t))) (sym (eq-eqb u t x.1)) (with_new (asked b l r) (hs t) g x.2)
-      to (inr y) = in_cond (eqb u t) (with_region (asked b l r) (hs t)) (hs t) g (λ _. with_kept (asked b l r) (hs t) g (same.0 y.0)) (λ _. same.0 y.0)
+      to (inr y) = cond_both (eqb u t) (with_region (asked b l r) (hs t)) (hs t) (In g) (λ _. with_kept (asked b l r) (hs t) g (same.0 y.0)) (λ _. same.0 y.0)
 
       kept : In g (hs t) → GrantedByPlan (Grant u b l r) a t g ⊎ (H × ¬ ⊥)
       kept i = inr (same.1 i, λ z. z)
 
       from : In g (cond (eqb u t) (with_region (asked b l r) (hs t)) (hs t)) → GrantedByPlan (Grant u b l r) a t g ⊎ (H × ¬ ⊥)
-      from i = of_cond (eqb u t) (with_region (asked b l r) (hs t)) (hs t) g
-          (λ q j. ⊎_elim (λ e. inl (ok, eqb-true u t q, e)) kept (with_either (asked b l r) (hs t) g j)) (λ q j. kept j) i
+      from = cond_both (eqb u t) (with_region (asked b l r) (hs t)) (hs t) (λ (gs : List Region). In g gs → GrantedByPlan (Grant u b l r) a t g ⊎ (H × ¬ ⊥))
+          (λ q j. ⊎_elim (λ e. inl (ok, eqb-true u t q, e)) kept (with_either (asked b l r) (hs t) g j)) (λ q j. kept j)
 
   withdrawn_held : (u b : ℕ) → passed a ≡ true → ((⊥ ⊎ (H × ¬ WithdrawnByPlan (Withdraw u b) a t g)) ↔ In g (cond (eqb u t) (without b (hs t)) (hs t)))
   withdrawn_held u b ok = (to, from)
     where
       to : (⊥ ⊎ (H × ¬ WithdrawnByPlan (Withdraw u b) a t g)) → In g (cond (eqb u t) (without b (hs t)) (hs t))
       to (inl x) = absurd x
-      to (inr y) = in_cond (eqb u t) (without b (hs t)) (hs t) g (λ q. without_kept b (hs t) g (same.0 y.0) (λ e. y.1 (ok, eqb-true u t q, e))) (λ _. same.0 y.0)
+      to (inr y) = cond_both (eqb u t) (without b (hs t)) (hs t) (In g) (λ q. without_kept b (hs t) g (same.0 y.0) (λ e. y.1 (ok, eqb-true u t q, e))) (λ _. same.0 y.0)
 
       from : In g (cond (eqb u t) (without b (hs t)) (hs t)) → ⊥ ⊎ (H × ¬ WithdrawnByPlan (Withdraw u b) a t g)
-      from i = of_cond (eqb u t) (without b (hs t)) (hs t) g
+      from = cond_both (eqb u t) (without b (hs t)) (hs t) (λ (gs : List Region). In g gs → ⊥ ⊎ (H × ¬ WithdrawnByPlan (Withdraw u b) a t g))
           (λ q j. let p = without_parts b (hs t) g j in inr (same.1 p.0, λ w. p.1 w.2))
-          (λ q j. inr (same.1 j, λ w. eqb-false u t q w.1)) i
+          (λ q j. inr (same.1 j, λ w. eqb-false u t q w.1))
 
   -- where nothing is granted or withdrawn
   unchanged : (G W : Type 0) → (G → ⊥) → (W → ⊥) → ((G ⊎ (H × ¬ W)) ↔ In g (hs t))

@@ -1,5 +1,5 @@
 -- Points in a history, and what a task access leaves as it was.
-use Rattle.std.proofs.Common.{◌≡◌, ℕ, Bool, true, false, cond, List, [], ◌∷◌, ◌++◌, Some, None, Option, sym, refl, ap, ◌∙◌, subst, inl}
+use Rattle.std.proofs.Common.{◌≡◌, ℕ, Bool, true, false, cond, List, [], ◌∷◌, ◌++◌, Some, None, Option, refl, ap, subst, inl}
 use Rattle.std.proofs.lemmas.Bool.{false≢true, and_parts, eqb-true}
 use Rattle.access.specs.declared.access.Kind.{Kind}
 use Rattle.book.specs.Books.{Book}
@@ -64,21 +64,10 @@ access_by_lem t h c q = let p = and_parts (is_task c) (is_the t (entered h)) q i
 -- the entered task is the selected one
 pub entered_selected : (s : Bool) (o : Option ℕ) (t : ℕ) → cond s o None ≡ Some t → (s ≡ true) × (o ≡ Some t)
 entered_selected true o t q = (refl, q)
-entered_selected false o t q = absurd (no_task q)
-  where
-    code : Option ℕ → Type 0
-    code None = Unit {0}
-    code (Some u) = ⊥
-
-    no_task : None ≡ Some t → ⊥
-    no_task q = subst code q tt
-
-abbrev the : ℕ → Option ℕ → ℕ
-the d None = d
-the d (Some u) = u
+entered_selected false o t q = cc
 
 pub one_task : (o : Option ℕ) (t u : ℕ) → o ≡ Some t → o ≡ Some u → t ≡ u
-one_task o t u p q = ap (the t) (sym p ∙ q)
+one_task o t u p q = cc
 
 -- ---- bytes
 

@@ -1,7 +1,7 @@
 -- Two runs that are alike in all but one task's accesses stay alike, but for the bytes that this task may store.
 use Rattle.std.proofs.Common.{◌≡◌, ℕ, ◌+◌, ◌<◌, ◌≤◌, Bool, true, false, cond, ◌&&◌, ltb, leb, ◌≢◌, ◌⊎◌, List, [], ◌∷◌, Some, None, sym, refl, ap, ◌∙◌, subst, inl, inr, ⊎_elim, arith}
 use mathlib.Core.List.{cons-ne-nil, head-eq_of_cons-eq, tail-eq_of_cons-eq}
-use Rattle.std.proofs.lemmas.Bool.{cases_Bool, and_parts, leb-true, ltb-true}
+use Rattle.std.proofs.lemmas.Bool.{cases_Bool, cond-true, cond-false, and_parts, leb-true, ltb-true}
 use Rattle.access.specs.declared.access.Kind.{Kind}
 use Rattle.access.specs.declared.access.Mode.{Mode}
 use Rattle.book.specs.Books.{Book, Laws}
@@ -68,35 +68,22 @@ module _ (f : ℕ) (b : Book) (p : PlanMeaning) (m : MemoryMeaning) (bl : Laws b
   keeps_byte e h run B by x no_store =
       by_test (puts e.call e.answer x)
       (λ q. absurd (no_store (store_held e h run B by x q)))
-      (λ q. ap (λ (t : Bool). cond t (byte_of_call e.call x) (contents m h x)) q)
+      (λ q. cond-false _ _ _ q)
 
 -- it is no access of another task
 other_answers : (e : Event) (h : History) (A B : ℕ) → A ≢ B → access_by B h e.call ≡ true → answers_of A (e ∷ h) ≡ answers_of A h
 other_answers e h A B ne by =
     by_test (access_by A h e.call)
     (λ q. absurd (ne (one_task (entered h) A B (access_by_lem A h e.call q).1 (access_by_lem B h e.call by).1)))
-    (λ q. ap (λ (t : Bool). cond t (e.answer ∷ answers_of A h) (answers_of A h)) q)
+    (λ q. cond-false _ _ _ q)
 
 -- ---- reads
 
-kind_code : Kind → Type 0
-kind_code Kind.Load = Unit {0}
-kind_code Kind.Store = ⊥
-kind_code Kind.Fetch = Unit {0}
-
-load_store : Kind.Load ≢ Kind.Store
-unfolding kind_code
-load_store q = subst kind_code q tt
-
-fetch_store : Kind.Fetch ≢ Kind.Store
-unfolding kind_code
-fetch_store q = subst kind_code q tt
-
 -- an access gives the same where the bytes that it reads are the same
 given_same : (c d : ℕ → ℕ) (y : Access) → (kind_of y ≢ Kind.Store → (i : ℕ) → i < width_of y → c (address_of y + i) ≡ d (address_of y + i)) → given c y ≡ given d y
-given_same c d (Load a w) e = ap Answer.Value (value_same c d a a w (e load_store))
+given_same c d (Load a w) e = ap Answer.Value (value_same c d a a w (e (λ q. cc)))
 given_same c d (Store a w v) e = refl
-given_same c d (Fetch a w) e = ap Answer.Value (value_same c d a a w (e fetch_store))
+given_same c d (Fetch a w) e = ap Answer.Value (value_same c d a a w (e (λ q. cc)))
 
 reads : (h : History) (t : ℕ) (k : Kind) (x : ℕ) → k ≢ Kind.Store → EverHolds h t k x → EverHolds h t Kind.Load x ⊎ EverHolds h t Kind.Fetch x
 reads h t Kind.Load x n e = inl e
@@ -197,32 +184,24 @@ module _ (f : ℕ) (b : Book) (p : PlanMeaning) (m n : MemoryMeaning) (bl : Laws
             (subst (λ (c : Call). Answers f b p m h c e.answer) y.1 r.0.answers)
             (subst (λ (c : Call). Answers f b p n k c d.answer) y.1 answered) in
             λ i. cond (acc i) (ans i ∷ al.answers i) (al.answers i))
-            (λ q. ap (λ (t : Bool). cond t (e.answer ∷ answers_of A h) (answers_of A h)) q
-            ∙ al.answers
-            ∙ sym (ap (λ (t : Bool). cond t (d.answer ∷ answers_of A k) (answers_of A k)) (sym acc ∙ q)));
+            (λ q. cond-false _ _ _ q ∙ al.answers ∙ sym (cond-false _ _ _ (sym acc ∙ q)));
       }
 
   -- ---- along both runs
-
-  kept : (e : Event) (h : History) → access_by B h e.call ≡ false → without B (e ∷ h) ≡ (e.call ∷ without B h)
-  kept e h q = ap (λ (t : Bool). cond t (without B h) (e.call ∷ without B h)) q
-
-  taken : (e : Event) (h : History) → access_by B h e.call ≡ true → without B (e ∷ h) ≡ without B h
-  taken e h q = ap (λ (t : Bool). cond t (without B h) (e.call ∷ without B h)) q
 
   alike_nil : (k : History) → Run f b p n k → without B k ≡ [] → Alike m n A B [] k
   alike_nil [] s w = record { plans = refl; state = refl; bytes = λ x l never. same.byte x l; answers = refl }
   alike_nil (d ∷ k) s w =
       by_test (access_by B k d.call)
-      (λ q. step_right [] d k tt s q (alike_nil k s.1 (sym (taken d k q) ∙ w)))
-      (λ q. absurd (cons-ne-nil d.call (without B k) (sym (kept d k q) ∙ w)))
+      (λ q. step_right [] d k tt s q (alike_nil k s.1 (sym (cond-true _ _ _ q) ∙ w)))
+      (λ q. absurd (cons-ne-nil d.call (without B k) (sym (cond-false _ _ _ q) ∙ w)))
 
   alike_cons : (e : Event) (h : History) → Run f b p m (e ∷ h) → Separate h A B → ((k : History) → Run f b p n k → without B h ≡ without B k → Alike m n A B h k) → (k : History) → Run f b p n k → (e.call ∷ without B h) ≡ without B k → Alike m n A B (e ∷ h) k
   alike_cons e h r sep ih [] s w = absurd (cons-ne-nil e.call (without B h) w)
   alike_cons e h r sep ih (d ∷ k) s w =
       by_test (access_by B k d.call)
-      (λ q. step_right (e ∷ h) d k r s q (alike_cons e h r sep ih k s.1 (w ∙ taken d k q)))
-      (λ q. let z : (e.call ∷ without B h) ≡ (d.call ∷ without B k) = w ∙ kept d k q in
+      (λ q. step_right (e ∷ h) d k r s q (alike_cons e h r sep ih k s.1 (w ∙ cond-true _ _ _ q)))
+      (λ q. let z : (e.call ∷ without B h) ≡ (d.call ∷ without B k) = w ∙ cond-false _ _ _ q in
       step_both e h d k r s sep (head-eq_of_cons-eq z) (ih k s.1 (tail-eq_of_cons-eq z)))
 
   alike : (h : History) → Run f b p m h → Separate h A B → (k : History) → Run f b p n k → without B h ≡ without B k → Alike m n A B h k
@@ -230,8 +209,8 @@ module _ (f : ℕ) (b : Book) (p : PlanMeaning) (m n : MemoryMeaning) (bl : Laws
   alike (e ∷ h) r sep k s w =
       let less : Separate h A B = λ x y z. sep x (inr y) (⊎_elim (λ u. inl (inr u)) (λ u. inr (inr u)) z) in
       by_test (access_by B h e.call)
-      (λ q. step_left e h k r q (alike h r.1 less k s (sym (taken e h q) ∙ w)))
-      (λ q. alike_cons e h r less (alike h r.1 less) k s (sym (kept e h q) ∙ w))
+      (λ q. step_left e h k r q (alike h r.1 less k s (sym (cond-true _ _ _ q) ∙ w)))
+      (λ q. alike_cons e h r less (alike h r.1 less) k s (sym (cond-false _ _ _ q) ∙ w))
 
 pub separated : (f : ℕ) (b : Book) (p : PlanMeaning) (m : MemoryMeaning) → Laws b → PlanLaws f b p → MemoryLaws f m → (h : History) → Run f b p m h → Separated f b p m h
 separated f b p m bl pl ml h run A B ne sep n same k other w = (alike f b p m n bl pl ml same A B ne h run sep k other w).answers

@@ -1,6 +1,6 @@
 -- A passed load or fetch gives at each byte what the last passed store put there, else the starting byte.
-use Rattle.std.proofs.Common.{◌≡◌, ℕ, ◌+◌, ◌%◌, ◌^◌, ◌<◌, ◌≤◌, Bool, true, false, cond, ◌≢◌, [], ◌∷◌, ◌++◌, refl, ap, ◌∙◌, subst, arith, lit<}
-use Rattle.std.proofs.lemmas.Bool.{cond_both}
+use Rattle.std.proofs.Common.{◌≡◌, ℕ, ◌+◌, ◌%◌, ◌^◌, ◌<◌, ◌≤◌, Bool, true, false, ◌≢◌, [], ◌∷◌, ◌++◌, refl, ap, ◌∙◌, subst, arith, lit<}
+use Rattle.std.proofs.lemmas.Bool.{cond_both, cond-true, cond-false}
 use Rattle.access.specs.declared.access.Kind.{Kind}
 use Rattle.access.specs.declared.access.Mode.{Mode}
 use Rattle.book.specs.Books.{Book}
@@ -25,12 +25,11 @@ use Rattle.history.proofs.Points.{run_at}
 
 contents_start : (m : MemoryMeaning) (h : History) (x : ℕ) → Unstored h x → contents m h x ≡ m.byte x
 contents_start m [] x u = refl
-contents_start m (e ∷ h) x u = ap (λ (t : Bool). cond t (byte_of_call e.call x) (contents m h x)) u.0 ∙ contents_start m h x u.1
+contents_start m (e ∷ h) x u = cond-false _ _ _ u.0 ∙ contents_start m h x u.1
 
 contents_last : (m : MemoryMeaning) (newer : History) (s : Event) (older : History) (x : ℕ) → Unstored newer x → puts s.call s.answer x ≡ true → contents m (newer ++ (s ∷ older)) x ≡ byte_of_call s.call x
-contents_last m [] s older x u q = ap (λ (t : Bool). cond t (byte_of_call s.call x) (contents m older x)) q
-contents_last m (e ∷ newer) s older x u q =
-    ap (λ (t : Bool). cond t (byte_of_call e.call x) (contents m (newer ++ (s ∷ older)) x)) u.0 ∙ contents_last m newer s older x u.1 q
+contents_last m [] s older x u q = cond-true _ _ _ q
+contents_last m (e ∷ newer) s older x u q = cond-false _ _ _ u.0 ∙ contents_last m newer s older x u.1 q
 
 stored_small : (y : Access) (x : ℕ) → stored_byte y x < 256
 stored_small (Load a w) x = lit< tt

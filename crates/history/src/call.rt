@@ -3,8 +3,8 @@ use access::refusal::Refusal;
 use grants::call::PlanCall;
 use grants::refusal::GrantRefusal;
 
-// What an access does, and where.
-#[derive(Clone, Copy)]
+// What an access does, and where. A load and a fetch are two cases, since the statements about runs speak of either by its name.
+#[derive(Clone, Copy, PartialEq, Eq, Debug)]
 pub enum Access {
     Load {
         address: u64,
@@ -21,7 +21,7 @@ pub enum Access {
     },
 }
 
-#[derive(Clone, Copy)]
+#[derive(Clone, Copy, PartialEq, Eq, Debug)]
 pub enum Call {
     // A grant, a withdrawal or a selection.
     Plan(PlanCall),
@@ -35,7 +35,8 @@ pub enum Call {
     Task(Access),
 }
 
-#[derive(Clone, Copy)]
+// A Result of an Option would be no plainer: it needs a second enum for the two refusals, and two levels to match.
+#[derive(Clone, Copy, PartialEq, Eq, Debug)]
 pub enum Answer {
     // The call was accepted, or the store passed.
     Done,
@@ -48,7 +49,7 @@ pub enum Answer {
 }
 
 // A call that was made, with its answer.
-#[derive(Clone, Copy)]
+#[derive(Clone, Copy, PartialEq, Eq, Debug)]
 pub struct Event {
     pub call: Call,
     pub answer: Answer,

@@ -2,4 +2,5 @@
 #![tactic(auto)]
 
 pub mod call;
+mod conversions;
 mod reports;

@@ -3,6 +3,7 @@ ghost use Rattle.std.specs.Prelude.{◌≡◌};
 ghost use Rattle.history.specs.Answers.{number_of};
 
 use super::call::Answer;
+use access::numbered::Numbered;
 
 impl Answer {
     // The number of a refusal; there is none where the call passed.

@@ -1,7 +1,5 @@
-pub mod Fronts
-pub mod Reading
 pub mod Firsts
 pub mod Parting
+pub mod Fronts
 pub mod Whole
-pub mod Joining
 pub mod Accepting

@@ -1,114 +1,136 @@
 -- A file whose header is sound: its parts, its first fault, its bytes. Assumes nothing.
-use Rattle.std.proofs.Common.{◌≡◌, ℕ, zero, suc, ◌+◌, ◌-◌, ◌*◌, ◌/◌, ◌%◌, ◌≤◌, Bool, false, ltb, List, ◌++◌, length, take, drop, None, Option, sym, refl, ap, ◌∙◌, arith, length-drop, length-take}
-use Rattle.std.specs.List.{flat_map}
-use Rattle.std.proofs.lemmas.List.{take_rest, drop-drop, take-append-drop}
+use Rattle.std.proofs.Common.{◌≡◌, ℕ, zero, suc, ◌+◌, ◌*◌, ◌/◌, ◌<◌, ◌≤◌, Bool, false, ltb, List, ◌∷◌, ◌++◌, length, get_or, map, take, drop, None, Option, sym, refl, ap, subst, ◌∙◌, arith, length-drop, length-take}
+use native.Mathlib.Nat.{div-eq-sub-div}
+use Rattle.std.specs.Simd.{first_chunks}
+use Rattle.std.proofs.lemmas.List.{length-map, length-take-le, get_or-take, drop-drop, take-append-drop}
+use Rattle.std.proofs.lemmas.List.Elements.{All-take, All-drop}
 use Rattle.std.proofs.lemmas.Bool.Decides.{nat_tests}
 use Rattle.access.specs.Cases.{Report, first_of}
-use Rattle.layout.specs.Words.{word, word_bytes}
-use Rattle.layout.specs.Records.{records, task_part, region_part, tasks_of, regions_of, fourths_of, file_tasks, file_regions}
-use Rattle.layout.specs.Encoding.{task_bytes, region_bytes, encoded}
+use Rattle.layout.specs.Words.{le32, word, word_bytes}
+use Rattle.layout.specs.Records.{header_at, task_at, region_at, records, task_part, region_part, tasks_of, fourths_of, file_tasks, file_regions}
+use Rattle.layout.specs.Encoding.{header_bytes, encoded}
 use Rattle.layout.specs.Faults.{file_length, shape_cases, task_cases, region_cases, layout_fault}
 use Rattle.layout.specs.Refusals.{Tells}
-use Rattle.layout.specs.declared.records.TaskRecord.{TaskRecord}
-use Rattle.layout.specs.declared.records.RegionRecord.{RegionRecord}
+use Rattle.layout.specs.declared.header.Header.{Header}
 use Rattle.layout.proofs.Firsts.{first_past, tells_first}
+use Rattle.layout.proofs.Fronts.{Byte, Bytes, four_words, tasks_back, regions_back}
 
-pub length_records : {R : Type 0} (k : ℕ) (at : List ℕ → R) (n : ℕ) (b : List ℕ) → length (records k at n b) ≡ n
-length_records k at zero b = refl
-length_records k at (suc n) b = ap suc (length_records k at n (drop k b))
+length-first_chunks : {X : Type 0} (k n : ℕ) (xs : List X) → length (first_chunks k n xs) ≡ n
+length-first_chunks k zero xs = refl
+length-first_chunks k (suc n) xs = ap suc (length-first_chunks k n (drop k xs))
 
--- The words of a file's header, and that no case of its shape holds.
-pub record Headed (f rest : List ℕ) (t n p q : ℕ) : Type 0 where
+length-records : {R : Type 0} (k n : ℕ) (at : List ℕ → R) (b : List ℕ) → length b / k ≡ n → length (map at (records k b)) ≡ n
+length-records k n at b e = length-map (records k b) at ∙ length-first_chunks k _ b ∙ e
+
+-- The first record that some bytes hold, and those after it.
+pub records_more : {R : Type 0} (k : ℕ) (at : List ℕ → R) (b : List ℕ) → 0 < k → k ≤ length b
+    → map at (records k b) ≡ at (take k b) ∷ map at (records k (drop k b))
+records_more k at b z h = let q : length b / k ≡ suc (length (drop k b) / k) = simp (length-drop, div-eq-sub-div z h) (omega arith) in rw q
+
+-- A word within the first n bytes of a file is that word of the file.
+pub word_take : (n : ℕ) (f : List ℕ) (p : ℕ) → p + 3 < n → word (take n f) p ≡ word f p
+word_take n f p h =
+    let e : (k : ℕ) → k < n → get_or (take n f) k 0 ≡ get_or f k 0 = λ k l. get_or-take n f k 0 l in
+    λ i. le32 (e p (omega arith) i) (e (p + 1) (omega arith) i) (e (p + 2) (omega arith) i) (e (p + 3) (omega arith) i)
+
+-- The header of a file, and what stands after it.
+pub record Headed (f rest : List ℕ) (h : Header) : Type 0 where
   pub long : 16 ≤ length f
-  pub tasks : t ≡ word f 0
-  pub regions : n ≡ word f 4
-  pub tasks_at : p ≡ word f 8
-  pub regions_at : q ≡ word f 12
+  pub is : h ≡ header_at (take 16 f)
   pub after : rest ≡ drop 16 f
-  pub sound : first_of (shape_cases (length f) t n p q) ≡ None
 
-pub headed : {f rest : List ℕ} {t n p q : ℕ} → (16 ≤ length f) × (t ≡ word f 0) × (n ≡ word f 4) × (p ≡ word f 8) × (q ≡ word f 12) × (rest ≡ drop 16 f)
-    → first_of (shape_cases (length f) t n p q) ≡ None → Headed f rest t n p q
-headed w e = record { long = w.0; tasks = w.1; regions = w.2; tasks_at = w.3; regions_at = w.4; after = w.5; sound = e }
+pub headed : {f front rest : List ℕ} {h : Header} → (front ≡ take 16 f) × (rest ≡ drop 16 f) × (length rest + 16 ≡ length f) → h ≡ header_at front → Headed f rest h
+headed cut e = let l = cut.2 in record { long = omega arith; is = e ∙ ap header_at cut.0; after = cut.1 }
 
--- The cases of the records of a file.
+-- The cases of the header and of the records of a file.
+abbrev shape_of : List ℕ → List (Bool × Report)
+shape_of f = shape_cases (length f) (word f 0) (word f 4) (word f 8) (word f 12)
+
 abbrev record_cases : List ℕ → List (Bool × Report)
 record_cases f = task_cases (word f 4) 16 0 (file_tasks f) ++ region_cases (16 + 8 * word f 0 + 12) (fourths_of (region_part f))
 
-pub tells_shape : (f : List ℕ) {rest : List ℕ} {t n p q : ℕ} → (16 ≤ length f) × (t ≡ word f 0) × (n ≡ word f 4) × (p ≡ word f 8) × (q ≡ word f 12) × (rest ≡ drop 16 f)
-    → (o : Option Report) → Tells (first_of (shape_cases (length f) t n p q)) o → Tells (layout_fault f) o
-tells_shape f w o h =
-    let l = w.0 in
-    let k : ltb (length f) 16 ≡ false = grind (arith, nat_tests) in
-    rw k (tells_first (shape_cases (length f) (word f 0) (word f 4) (word f 8) (word f 12)) (record_cases f) o (rw (w.1, w.2, w.3, w.4) at h))
+module _ {f rest : List ℕ} {h : Header} (s : Headed f rest h) where
+  tasks : h.tasks ≡ word f 0
+  tasks = ap (λ x. x.tasks) s.is ∙ word_take 16 f 0 (omega arith)
 
-module _ {f rest : List ℕ} {t n p q : ℕ} (s : Headed f rest t n p q) where
-  pub size : length f ≡ file_length t n
-  size = let e = s.sound in grind (arith, nat_tests)
+  regions : h.regions ≡ word f 4
+  regions = ap (λ x. x.regions) s.is ∙ word_take 16 f 4 (omega arith)
 
-  tasks_begin : p ≡ 16
-  tasks_begin = let e = s.sound in grind (arith, nat_tests)
+  shape : first_of (shape_cases (length f) h.tasks h.regions h.task_offset h.region_offset) ≡ first_of (shape_of f)
+  shape =
+      let tasks_at : h.task_offset ≡ word f 8 = ap (λ x. x.task_offset) s.is ∙ word_take 16 f 8 (omega arith) in
+      let regions_at : h.region_offset ≡ word f 12 = ap (λ x. x.region_offset) s.is ∙ word_take 16 f 12 (omega arith) in
+      λ i. first_of (shape_cases (length f) (tasks i) (regions i) (tasks_at i) (regions_at i))
 
-  regions_begin : q ≡ 16 + 8 * t
-  regions_begin = let e = s.sound in grind (arith, nat_tests)
+  no_short : ltb (length f) 16 ≡ false
+  no_short = let l = s.long in grind (arith, nat_tests)
 
-  front : take (8 * t) rest ≡ task_part f
-  front = rw (s.after, ← s.tasks)
+  pub tells_shape : (o : Option Report) → Tells (first_of (shape_cases (length f) h.tasks h.regions h.task_offset h.region_offset)) o → Tells (layout_fault f) o
+  tells_shape o t = rw no_short (tells_first (shape_of f) (record_cases f) o (subst (λ x. Tells x o) shape t))
 
-  back : drop (8 * t) rest ≡ region_part f
-  back = rw (s.after, drop-drop, ← s.tasks)
+-- A sound header.
+module _ {f rest : List ℕ} {h : Header} (s : Headed f rest h) (sound : first_of (shape_cases (length f) h.tasks h.regions h.task_offset h.region_offset) ≡ None) where
+  size : length f ≡ file_length h.tasks h.regions
+  size = grind (arith, nat_tests)
+
+  tasks_begin : h.task_offset ≡ 16
+  tasks_begin = grind (arith, nat_tests)
+
+  regions_begin : h.region_offset ≡ 16 + 8 * h.tasks
+  regions_begin = grind (arith, nat_tests)
 
   -- The parts, as the code cuts them.
-  pub task_part_lem : take (8 * t - 0) rest ≡ task_part f
-  task_part_lem = let k : 8 * t - 0 ≡ 8 * t = omega arith in rw k front
+  pub front : take (8 * h.tasks) rest ≡ task_part f
+  front = rw (s.after, ← tasks s)
 
-  pub region_part_lem : take (length rest - 8 * t) (drop (8 * t) rest) ≡ region_part f
-  region_part_lem = take_rest rest (8 * t) ∙ back
+  pub back : drop (8 * h.tasks) rest ≡ region_part f
+  back = rw (s.after, drop-drop, ← tasks s)
 
-  long_tasks : length (task_part f) ≡ 8 * t
-  long_tasks = let l = size in let k = s.tasks in simp (length-take, length-drop) (omega arith)
+  long_tasks : length (task_part f) ≡ 8 * h.tasks
+  long_tasks = let l = size in let k = tasks s in simp (length-take, length-drop) (omega arith)
 
-  long_regions : length (region_part f) ≡ 16 * n
-  long_regions = let l = size in let k = s.tasks in simp length-drop (omega arith)
+  long_regions : length (region_part f) ≡ 16 * h.regions
+  long_regions = let l = size in let k = tasks s in simp length-drop (omega arith)
 
-  pub task_count : length (file_tasks f) ≡ t
-  task_count = let l = long_tasks in let k : length (task_part f) / 8 ≡ t = omega arith in length_records 8 _ _ _ ∙ k
+  task_count : length (file_tasks f) ≡ h.tasks
+  task_count = let l = long_tasks in length-records 8 _ task_at (task_part f) (omega arith)
 
-  pub region_count_lem : length (file_regions f) ≡ n
-  region_count_lem = let l = long_regions in let k : length (region_part f) / 16 ≡ n = omega arith in length_records 16 _ _ _ ∙ k
+  pub region_count_lem : length (file_regions f) ≡ h.regions
+  region_count_lem = let l = long_regions in length-records 16 _ region_at (region_part f) (omega arith)
 
   -- The first fault stands in the records.
   past_header : layout_fault f ≡ first_of (record_cases f)
-  past_header =
-      let l = s.long in
-      let k : ltb (length f) 16 ≡ false = grind (arith, nat_tests) in
-      let e : first_of (shape_cases (length f) (word f 0) (word f 4) (word f 8) (word f 12)) ≡ None = rw (← s.tasks, ← s.regions, ← s.tasks_at, ← s.regions_at) s.sound in
-      rw k (first_past (shape_cases (length f) (word f 0) (word f 4) (word f 8) (word f 12)) (record_cases f) e)
+  past_header = rw (no_short s) (first_past (shape_of f) (record_cases f) (sym (shape s) ∙ sound))
 
-  pub tells_tasks : (b : List ℕ) (o : Option Report) → b ≡ task_part f → Tells (first_of (task_cases n 16 0 (tasks_of b))) o → Tells (layout_fault f) o
-  tells_tasks b o e h = rw past_header (tells_first (task_cases (word f 4) 16 0 (file_tasks f)) _ o (rw (s.regions, e) at h))
+  pub tells_tasks : (b : List ℕ) (o : Option Report) → b ≡ task_part f → Tells (first_of (task_cases h.regions 16 0 (tasks_of b))) o → Tells (layout_fault f) o
+  tells_tasks b o e t = rw past_header (tells_first (task_cases (word f 4) 16 0 (file_tasks f)) _ o (rw (regions s, e) at t))
 
-  pub past_tasks : (b : List ℕ) → b ≡ task_part f → first_of (task_cases n 16 0 (tasks_of b)) ≡ None
-      → layout_fault f ≡ first_of (region_cases (16 + 8 * t + 12) (fourths_of (region_part f)))
-  past_tasks b e h = past_header ∙ first_past (task_cases (word f 4) 16 0 (file_tasks f)) _ (rw (s.regions, e) at h) ∙ rw s.tasks
+  past_tasks : (b : List ℕ) → b ≡ task_part f → first_of (task_cases h.regions 16 0 (tasks_of b)) ≡ None
+      → layout_fault f ≡ first_of (region_cases (16 + 8 * h.tasks + 12) (fourths_of (region_part f)))
+  past_tasks b e t = past_header ∙ first_past (task_cases (word f 4) 16 0 (file_tasks f)) _ (rw (regions s, e) at t) ∙ rw (tasks s)
 
-  pub encodes : (ts : List TaskRecord) (rs : List RegionRecord) (a b : List ℕ) → ts ≡ tasks_of a → rs ≡ regions_of b → a ≡ task_part f → b ≡ region_part f
-      → (length a % 8 ≡ 0 → flat_map task_bytes ts ≡ a) → (length b % 16 ≡ 0 → flat_map region_bytes rs ≡ b)
-      → f ≡ word_bytes t ++ (word_bytes n ++ (word_bytes p ++ (word_bytes q ++ rest))) → encoded ts rs ≡ f
-  encodes ts rs a b et er ea eb ja jb h =
-      let la : length a ≡ 8 * t = ap length ea ∙ long_tasks in
-      let lb : length b ≡ 16 * n = ap length eb ∙ long_regions in
-      let za : length a % 8 ≡ 0 = omega arith in
-      let zb : length b % 16 ≡ 0 = omega arith in
-      let ct : length ts ≡ t = ap length (rw ea at et) ∙ task_count in
-      let cr : length rs ≡ n = ap length (rw eb at er) ∙ region_count_lem in
-      let parts : rest ≡ a ++ b = sym (take-append-drop (8 * t) rest) ∙ (λ i. (front ∙ sym ea) i ++ (back ∙ sym eb) i) in
-      rw (ct, cr, ja za, jb zb) (sym (rw (tasks_begin, regions_begin, parts) at h))
+  pub tells_regions : (a b : List ℕ) (o : Option Report) → a ≡ task_part f → b ≡ region_part f → first_of (task_cases h.regions 16 0 (tasks_of a)) ≡ None
+      → Tells (first_of (region_cases (16 + 8 * h.tasks + 12) (fourths_of b))) o → Tells (layout_fault f) o
+  tells_regions a b o ea eb t k = rw (past_tasks a ea t) (rw eb at k)
 
-  pub tells_regions : (a b : List ℕ) (o : Option Report) → a ≡ task_part f → b ≡ region_part f → first_of (task_cases n 16 0 (tasks_of a)) ≡ None
-      → Tells (first_of (region_cases (16 + 8 * t + 12) (fourths_of b))) o → Tells (layout_fault f) o
-  tells_regions a b o ea eb h k = rw (past_tasks a ea h) (rw eb at k)
+  pub no_fault : (a b : List ℕ) → a ≡ task_part f → b ≡ region_part f → first_of (task_cases h.regions 16 0 (tasks_of a)) ≡ None
+      → first_of (region_cases (16 + 8 * h.tasks + 12) (fourths_of b)) ≡ None → layout_fault f ≡ None
+  no_fault a b ea eb t k = past_tasks a ea t ∙ (rw eb at k)
 
-  pub no_fault : (a b : List ℕ) → a ≡ task_part f → b ≡ region_part f → first_of (task_cases n 16 0 (tasks_of a)) ≡ None
-      → first_of (region_cases (16 + 8 * t + 12) (fourths_of b)) ≡ None → layout_fault f ≡ None
-  no_fault a b ea eb h k = past_tasks a ea h ∙ (rw eb at k)
+  header_back : Bytes f → header_bytes h.tasks h.regions ≡ take 16 f
+  header_back b =
+      let words = ap (λ x. word_bytes x.tasks ++ (word_bytes x.regions ++ (word_bytes x.task_offset ++ word_bytes x.region_offset))) s.is
+      ∙ four_words (take 16 f) (All-take Byte 16 f b) (length-take-le 16 f s.long) in
+      rw (tasks_begin, regions_begin) at words
+
+  parts : task_part f ++ region_part f ≡ drop 16 f
+  parts = (λ i. (sym front) i ++ (sym back) i) ∙ take-append-drop (8 * h.tasks) rest ∙ s.after
+
+  -- The file is the encoding of its records.
+  pub encodes : (p : ℕ) (b : List ℕ) → Bytes f → b ≡ region_part f → first_of (region_cases p (fourths_of b)) ≡ None → encoded (file_tasks f) (file_regions f) ≡ f
+  encodes p b bytes e none =
+      let lt = long_tasks in
+      let lr = long_regions in
+      let ts = tasks_back (length (task_part f) / 8) (task_part f) (All-take Byte _ _ (All-drop Byte 16 f bytes)) (omega arith) in
+      let rs = regions_back p (length (region_part f) / 16) (region_part f) (All-drop Byte _ f bytes) (omega arith) (rw e at none) in
+      (λ i. header_bytes (task_count i) (region_count_lem i) ++ (ts i ++ rs i)) ∙ (λ i. header_back bytes i ++ parts i) ∙ take-append-drop 16 f

@@ -1,8 +1,14 @@
 -- The records of a layout file, read from its bytes. Assumes nothing.
-use Rattle.std.specs.Prelude.{ℕ, zero, suc, ◌+◌, ◌*◌, ◌/◌, List, [], ◌∷◌, length, take, drop}
+use Rattle.std.specs.Prelude.{ℕ, ◌+◌, ◌*◌, ◌/◌, List, length, map, take, drop}
+use Rattle.std.specs.Simd.{first_chunks}
 use Rattle.layout.specs.Words.{word}
+use Rattle.layout.specs.declared.header.Header.{Header}
 use Rattle.layout.specs.declared.records.TaskRecord.{TaskRecord}
 use Rattle.layout.specs.declared.records.RegionRecord.{RegionRecord}
+
+-- A header: the numbers of tasks and of regions, and where the records of each begin.
+abbrev pub header_at : List ℕ → Header
+header_at b = record { tasks = word b 0; regions = word b 4; task_offset = word b 8; region_offset = word b 12 }
 
 -- A task record: the index of its first region, and the number of its regions.
 abbrev pub task_at : List ℕ → TaskRecord
@@ -16,20 +22,19 @@ region_at b = record { base = word b 0; length = word b 4; rights = word b 8 }
 abbrev pub fourth_at : List ℕ → ℕ
 fourth_at b = word b 12
 
--- The first n records of k bytes each, one after the other.
-abbrev pub records : {R : Type 0} → ℕ → (List ℕ → R) → ℕ → List ℕ → List R
-records k at zero b = []
-records k at (suc n) b = at b ∷ records k at n (drop k b)
+-- The records of k bytes that some bytes hold whole, one after the other.
+abbrev pub records : ℕ → List ℕ → List (List ℕ)
+records k b = first_chunks k (length b / k) b
 
 -- All the task records of some bytes, all the region records, and the fourth words of these.
 abbrev pub tasks_of : List ℕ → List TaskRecord
-tasks_of b = records 8 task_at (length b / 8) b
+tasks_of b = map task_at (records 8 b)
 
 abbrev pub regions_of : List ℕ → List RegionRecord
-regions_of b = records 16 region_at (length b / 16) b
+regions_of b = map region_at (records 16 b)
 
 abbrev pub fourths_of : List ℕ → List ℕ
-fourths_of b = records 16 fourth_at (length b / 16) b
+fourths_of b = map fourth_at (records 16 b)
 
 -- The bytes of a file that hold its task records: 8 for each, after the header of 16.
 abbrev pub task_part : List ℕ → List ℕ

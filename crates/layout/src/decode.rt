@@ -20,13 +20,13 @@ impl Layout {
         ensures encoding { IfOk result (λ l. encoded l.tasks.items l.regions.items ≡ file.now) }
         ensures accepts { Accepts }
     {
-        let Some((header, records)) = Header::split(file) else {
-            return Err(LayoutRefusal::Short);
-        };
+        let (header, records) = file.split_first_chunk::<16>().ok_or(LayoutRefusal::Short)?;
+        let header = Header::from(header);
         header.check(file.len())?;
         let middle = 8 * header.tasks as usize;
-        let tasks = read_tasks(heap, &records[0..middle], header.regions)?;
-        let regions = read_regions(heap, &records[middle..], 16 + middle)?;
+        let (task_part, region_part) = records.split_at(middle);
+        let tasks = read_tasks(heap, task_part, header.regions)?;
+        let regions = read_regions(heap, region_part, 16 + middle)?;
         Ok(Layout { tasks, regions })
     }
 }

@@ -4,6 +4,7 @@ ghost use Rattle.layout.specs.Partition.{Consecutive, region_count};
 
 use super::records::{RegionRecord, TaskRecord};
 
+// Tasks stay index ranges into one list of regions, as in the file, since refusals name indices and places of the file.
 #[derive(Drop)]
 pub struct Layout {
     pub tasks: Vec<TaskRecord>,

@@ -1,9 +1,21 @@
 // The listing of a loaded layout.
-ghost use Rattle.std.specs.Prelude.{◌≡◌, IfOk, string_bytes};
+ghost use Rattle.std.specs.Prelude.{◌≡◌, ◌++◌, List, ℕ, Some, IfOk, OnOk, string_bytes, codes};
+ghost use Rattle.std.specs.List.{flat_map};
 ghost use Rattle.layout.specs.Lines.{listing_text};
 
 use super::lines::{EntryLine, SwitchLine};
 use std::alloc::{AllocError, Global};
+use std::fmt;
+
+// Adds the text of each line, and a line feed after it.
+fn push_lines<T: fmt::Display>(text: &mut String, lines: &[T]) -> Result<(), AllocError>
+    ensures { OnOk result ((shown : T → List ℕ) → ((x : T) → T.output x ≡ Some (shown x)) → string_bytes text.new ≡ string_bytes text.old ++ flat_map (λ x. shown x ++ codes "\n") lines.now) }
+{
+    for line in lines {
+        writeln!(text, "{line}")?;
+    }
+    Ok(())
+}
 
 // The text of all lines: the entries, then the switches.
 pub fn listing_text(
@@ -14,13 +26,7 @@ pub fn listing_text(
     ensures { IfOk result (λ s. string_bytes s ≡ listing_text entries.now switches.now) }
 {
     let mut text = String::new(heap);
-    for entry in entries {
-        let line = format!(in heap; "{entry}\n")?;
-        text.push_str(line.as_str())?;
-    }
-    for switch in switches {
-        let line = format!(in heap; "{switch}\n")?;
-        text.push_str(line.as_str())?;
-    }
+    push_lines(&mut text, entries)?;
+    push_lines(&mut text, switches)?;
     Ok(text)
 }

@@ -7,7 +7,8 @@ pub struct TaskRecord {
     pub count: u32,
 }
 
-// A region: its base and its length in units of four bytes, and its rights, read 1, write 2 and execute 4 added.
+// A region, in the words of the file, whatever they are: its base and its length in units of four bytes, and its rights, read 1, write 2
+// and execute 4 added.
 #[derive(Clone, Copy, PartialEq, Eq, Debug)]
 pub struct RegionRecord {
     pub base: u32,

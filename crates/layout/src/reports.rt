@@ -36,7 +36,7 @@ impl LayoutRefusal {
         }
     }
 
-    // The line that a program prints of it.
+    // The line that a program prints of it, if it is about the file. (No `TryFrom`: want of memory is no failed conversion.)
     pub fn line(self) -> Option<RefusalLine>
         ensures { result ≡ option_map line_of (layout_report self) }
     {

@@ -10,10 +10,10 @@ impl fmt::Display for EntryLine {
     ghost output = { λ x. Some (entry_text x) };
 
     fn fmt<W: fmt::Write>(&self, f: &mut fmt::Formatter<W>) -> fmt::Result {
-        let number = Decimal2(self.number);
-        let byte = Hex2(self.byte);
-        let address = Hex8(self.address);
-        let task = Decimal2(self.task);
+        let number = Decimal2::new(self.number);
+        let byte = Hex2::new(self.byte);
+        let address = Hex8::new(self.address);
+        let task = Decimal2::new(self.task);
         write!(f, "entry {number} {byte} {address} {task}")
     }
 }
@@ -22,9 +22,9 @@ impl fmt::Display for SwitchLine {
     ghost output = { λ x. Some (switch_text x) };
 
     fn fmt<W: fmt::Write>(&self, f: &mut fmt::Formatter<W>) -> fmt::Result {
-        let task = Decimal2(self.task);
-        let low = Hex8(self.low);
-        let high = Hex8(self.high);
+        let task = Decimal2::new(self.task);
+        let low = Hex8::new(self.low);
+        let high = Hex8::new(self.high);
         write!(f, "switch {task} {low} {high}")
     }
 }
@@ -35,7 +35,7 @@ impl fmt::Display for RefusalLine {
     fn fmt<W: fmt::Write>(&self, f: &mut fmt::Formatter<W>) -> fmt::Result {
         match *self {
             RefusalLine::AtPlace { number, place } => {
-                let number = Decimal2(number);
+                let number = Decimal2::new(number);
                 write!(f, "refused {number} at {place}")
             }
             RefusalLine::OfRegion {
@@ -43,9 +43,9 @@ impl fmt::Display for RefusalLine {
                 task,
                 region,
             } => {
-                let number = Decimal2(number);
-                let task = Decimal2(task);
-                let region = Decimal2(region);
+                let number = Decimal2::new(number);
+                let task = Decimal2::new(task);
+                let region = Decimal2::new(region);
                 write!(f, "refused {number} task {task} region {region}")
             }
         }

@@ -1,11 +1,12 @@
 // Little-endian words.
-ghost use Rattle.std.specs.Prelude.{◌≡◌, [], ◌∷◌};
-ghost use Rattle.layout.specs.Words.{le32, word_bytes};
+ghost use Rattle.std.specs.Prelude.{◌≡◌, ◌+◌, ◌≤◌, length};
+ghost use Rattle.layout.specs.Words.{word};
 
-// The word of four bytes, lowest first.
-pub(crate) fn word_of(a: u8, b: u8, c: u8, d: u8) -> u32
-    ensures value { result ≡ le32 a b c d }
-    ensures bytes { word_bytes result ≡ a ∷ b ∷ c ∷ d ∷ [] }
+// The word that begins at a place of some bytes.
+pub(crate) fn word_at(bytes: &[u8], place: usize) -> u32
+    requires { place + 4 ≤ length bytes.now }
+    ensures { result ≡ word bytes.now place }
 {
-    u32::from_le_bytes([a, b, c, d])
+    let word = bytes[place..].first_chunk::<4>().unwrap();
+    u32::from_le_bytes(*word)
 }

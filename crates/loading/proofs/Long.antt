@@ -1,12 +1,13 @@
 -- A file that is longer than any layout is refused by its header or its length, so what follows its first bytes does not matter. Assumes nothing.
-use Rattle.std.proofs.Common.{◌≡◌, ℕ, ◌+◌, ◌*◌, ◌<◌, ◌≤◌, Bool, true, false, cond, not, eqb, ltb, List, ◌++◌, length, get_or, take, Some, Option, sym, refl, ap, ◌∙◌, arith, lit<}
-use Rattle.std.proofs.lemmas.List.{get_or-take, length-take-le}
+use Rattle.std.proofs.Common.{◌≡◌, ℕ, ◌+◌, ◌*◌, ◌<◌, ◌≤◌, Bool, true, false, cond, not, eqb, ltb, List, ◌++◌, length, take, Some, Option, sym, refl, ap, ◌∙◌, arith, lit<}
+use Rattle.std.proofs.lemmas.List.{length-take-le}
 use Rattle.std.proofs.lemmas.Bool.{cond-true, cond-false, le-ltb, ltb-false, ne_eqb}
 use Rattle.access.specs.Cases.{Report, first_of}
-use Rattle.layout.specs.Words.{word, le32}
+use Rattle.layout.specs.Words.{word}
 use Rattle.layout.specs.Records.{file_tasks, file_regions, region_part, fourths_of}
 use Rattle.layout.specs.Faults.{at, file_length, shape_cases, task_cases, region_cases, layout_fault}
 use Rattle.layout.specs.Lines.{line_of}
+use Rattle.layout.proofs.Whole.{word_take}
 use Rattle.loading.specs.Reports.{line_text, fault_text, granted_text, LongFiles}
 
 pull : (b : Bool) (x y : Report) (z : Option Report) → (b ≡ false → z ≡ Some y) → cond b (Some x) z ≡ Some (cond b x y)
@@ -32,16 +33,11 @@ long_fault f h = cond-false (ltb (length f) 16) _ _ (le-ltb (length f) 16 (omega
     (task_cases (word f 4) 16 0 (file_tasks f) ++ region_cases (16 + 8 * word f 0 + 12) (fourths_of (region_part f)))
     h
 
-word_take : (f : List ℕ) (p : ℕ) → p + 3 < 1169 → word (take 1169 f) p ≡ word f p
-word_take f p h =
-    let e : (k : ℕ) → k < 1169 → get_or (take 1169 f) k 0 ≡ get_or f k 0 = λ k l. get_or-take 1169 f k 0 l in
-    λ i. le32 (e p (omega arith) i) (e (p + 1) (omega arith) i) (e (p + 2) (omega arith) i) (e (p + 3) (omega arith) i)
-
 pub long_files : LongFiles
 long_files f h =
     let g = take 1169 f in
     let l : length g ≡ 1169 = length-take-le 1169 f h in
-    let e : (p : ℕ) → p + 3 < 1169 → word f p ≡ word g p = λ p k. sym (word_take f p k) in
+    let e : (p : ℕ) → p + 3 < 1169 → word f p ≡ word g p = λ p k. sym (word_take 1169 f p k) in
     let same : shape_fault (word f 0) (word f 4) (word f 8) (word f 12) ≡ shape_fault (word g 0) (word g 4) (word g 8) (word g 12) =
     λ i. shape_fault (e 0 (lit< tt) i) (e 4 (lit< tt) i) (e 8 (lit< tt) i) (e 12 (lit< tt) i) in
     ap (λ o. fault_text o (granted_text (file_tasks f) (file_regions f))) (long_fault f h)

@@ -21,11 +21,9 @@ module _ (f : ℕ) (p : PlanTerms) where
   unfolding played
   played_step cs g gs = refl
 
-  pub played_on : (cs : List PlanCall) (g : LayoutGrant) (gs : List LayoutGrant) → refused_at cs g ≡ None → played f p cs (g ∷ gs) ≡ played f p (g.call ∷ cs) gs
-  played_on cs g gs e = played_step cs g gs ∙ ap (λ (o : Option RefusedGrant). gone_on o (g.call ∷ cs) (played f p (g.call ∷ cs) gs)) e
-
-  pub played_stop : (cs : List PlanCall) (g : LayoutGrant) (gs : List LayoutGrant) (x : RefusedGrant) → refused_at cs g ≡ Some x → played f p cs (g ∷ gs) ≡ record { calls = g.call ∷ cs; refusal = Some x }
-  played_stop cs g gs x e = played_step cs g gs ∙ ap (λ (o : Option RefusedGrant). gone_on o (g.call ∷ cs) (played f p (g.call ∷ cs) gs)) e
+  -- what is left once it is known whether the first grant is refused
+  pub played_by : (cs : List PlanCall) (g : LayoutGrant) (gs : List LayoutGrant) (o : Option RefusedGrant) → refused_at cs g ≡ o → played f p cs (g ∷ gs) ≡ gone_on o (g.call ∷ cs) (played f p (g.call ∷ cs) gs)
+  played_by cs g gs o e = played_step cs g gs ∙ ap (λ (x : Option RefusedGrant). gone_on x (g.call ∷ cs) (played f p (g.call ∷ cs) gs)) e
 
   -- Grants after other grants begin where those ended, if none was refused.
   abbrev pub Appended : List PlanCall → List LayoutGrant → List LayoutGrant → Type 0
@@ -43,10 +41,7 @@ module _ (f : ℕ) (p : PlanTerms) where
   played_append cs (g ∷ us) vs =
       elim (refused_at cs g) as (λ o. stepped cs g us vs o) [ None ↦ played_append (g.call ∷ cs) us vs | Some x ↦ refl ]
 
-  pub append_on : (cs : List PlanCall) (us vs : List LayoutGrant) → (played f p cs us).refusal ≡ None → played f p cs (us ++ vs) ≡ played f p (played f p cs us).calls vs
-  append_on cs us vs e =
-      played_append cs us vs ∙ ap (λ (o : Option RefusedGrant). gone_on o (played f p cs us).calls (played f p (played f p cs us).calls vs)) e
-
-  pub append_stop : (cs : List PlanCall) (us vs : List LayoutGrant) (x : RefusedGrant) → (played f p cs us).refusal ≡ Some x → played f p cs (us ++ vs) ≡ record { calls = (played f p cs us).calls; refusal = Some x }
-  append_stop cs us vs x e =
-      played_append cs us vs ∙ ap (λ (o : Option RefusedGrant). gone_on o (played f p cs us).calls (played f p (played f p cs us).calls vs)) e
+  -- what is left once it is known whether one of the first grants is refused
+  pub append_by : (cs : List PlanCall) (us vs : List LayoutGrant) (o : Option RefusedGrant) → (played f p cs us).refusal ≡ o → played f p cs (us ++ vs) ≡ gone_on o (played f p cs us).calls (played f p (played f p cs us).calls vs)
+  append_by cs us vs o e =
+      played_append cs us vs ∙ ap (λ (x : Option RefusedGrant). gone_on x (played f p cs us).calls (played f p (played f p cs us).calls vs)) e

@@ -1,6 +1,6 @@
 -- The lines of a plan's owners. Assumes nothing.
-use Rattle.std.specs.Prelude.{ℕ, zero, suc, ◌/◌, ◌%◌, ◌^◌, min, List, [], ◌∷◌, ◌++◌, Some, None, Option}
-use Rattle.std.specs.Option.{option_to_list}
+use Rattle.std.specs.Prelude.{ℕ, ◌/◌, ◌%◌, ◌^◌, min, List, map, Some, None, Option}
+use Rattle.std.specs.List.{filter_map, range_with_len}
 use Rattle.book.specs.Books.{Book}
 use Rattle.grants.specs.Owners.{owner_at}
 use Rattle.grants.specs.Images.{byte_of, address_of, switch_bits}
@@ -25,27 +25,17 @@ line_of_task b n o (Some t) = Some (record { number = n; byte = byte_of b o; add
 abbrev pub entry_line : Book → ℕ → Owner → Option EntryLine
 entry_line b n o = line_of_task b n o (owner_task o)
 
--- The lines of the entries below n, rising by number.
-unfoldable pub entry_lines_below : Book → List Owner → ℕ → List EntryLine
-entry_lines_below b os zero = []
-entry_lines_below b os (suc n) = entry_lines_below b os n ++ option_to_list (entry_line b n (owner_at os n))
-
--- The lines of all entries.
+-- The lines of all entries, rising by number.
 abbrev pub entry_lines : Book → List Owner → List EntryLine
-entry_lines b os = entry_lines_below b os 64
+entry_lines b os = filter_map (λ n. entry_line b n (owner_at os n)) (range_with_len 0 64)
 
 -- The line of a task: the switch bits of a selection of it, the 32 lower and the 32 higher ones.
 abbrev pub switch_line : List Owner → ℕ → SwitchLine
 switch_line os t = record { task = t; low = switch_bits os (Some t) % 2 ^ 32; high = switch_bits os (Some t) / 2 ^ 32 }
 
--- The lines of the tasks below n, rising by number.
-unfoldable pub switch_lines_below : List Owner → ℕ → List SwitchLine
-switch_lines_below os zero = []
-switch_lines_below os (suc n) = switch_lines_below os n ++ (switch_line os n ∷ [])
-
--- The lines of a file's tasks; a plan has sixteen at most.
+-- The lines of a file's tasks, rising by number; a plan has sixteen at most.
 abbrev pub switch_lines : List Owner → ℕ → List SwitchLine
-switch_lines os tasks = switch_lines_below os (min tasks 16)
+switch_lines os tasks = map (switch_line os) (range_with_len 0 (min tasks 16))
 
 -- The text of all lines, for as many tasks.
 abbrev pub owners_text : Book → List Owner → ℕ → List ℕ

@@ -1,6 +1,6 @@
 // The listing of a plan.
 ghost use Rattle.std.specs.Prelude.{◌≡◌, List, IfOk, string_bytes};
-ghost use Rattle.grants.specs.Standing.{PlanStands};
+ghost use Rattle.grants.specs.Standing.{owners_of};
 ghost use Rattle.grants.specs.ResidentMeaning.{owners_after, ResidentStands};
 ghost use Rattle.grants.specs.declared.call.PlanCall.{PlanCall};
 ghost use Rattle.loading.specs.Lines.{owners_text};
@@ -18,7 +18,7 @@ pub fn listing<B: RuleBook>(
     plan: &ResidentPlan<B, 32>,
     tasks: usize,
 ) -> Result<String, AllocError>
-    ensures standing { PlanStands B.RuleBook.meaning plan.now → IfOk result (λ s. string_bytes s ≡ owners_text B.RuleBook.meaning plan.now.owners.cells tasks) }
+    ensures standing { IfOk result (λ s. string_bytes s ≡ owners_text B.RuleBook.meaning (owners_of plan.now) tasks) }
     ensures after { (cs : List PlanCall) → ResidentStands B.RuleBook.meaning plan.now cs → IfOk result (λ s. string_bytes s ≡ owners_text B.RuleBook.meaning (owners_after 32 cs) tasks) }
 {
     let entries = entry_lines(heap, plan)?;

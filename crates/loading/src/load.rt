@@ -23,14 +23,12 @@ fn grant_region<P: Plan<F>, const F: u32>(
 {
     let base = 4 * u64::from(region.base);
     let length = 4 * u64::from(region.length);
-    match plan.grant(task as u64, base, length, u64::from(region.rights)) {
-        Ok(()) => Ok(()),
-        Err(refusal) => Err(LoadRefusal {
+    plan.grant(task as u64, base, length, u64::from(region.rights))
+        .map_err(|refusal| LoadRefusal {
             refusal,
             task,
             region: index,
-        }),
-    }
+        })
 }
 
 // Grants a task its regions, the first of which stands at `first` in the file.

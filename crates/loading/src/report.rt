@@ -12,6 +12,8 @@ use layout::layout::Layout;
 use layout::lines::RefusalLine;
 use std::alloc::{AllocError, Global};
 
+type SpmpPlan = ResidentPlan<SpmpBook, 32>;
+
 // A refusal on a line of its own.
 fn line_text(heap: Global, line: RefusalLine) -> Result<String, AllocError>
     ensures { IfOk result (λ s. string_bytes s ≡ line_text line) }
@@ -23,26 +25,22 @@ fn line_text(heap: Global, line: RefusalLine) -> Result<String, AllocError>
 pub fn granted_text(heap: Global, layout: &Layout) -> Result<String, AllocError>
     ensures { IfOk result (λ s. string_bytes s ≡ granted_text layout.now.tasks.items layout.now.regions.items) }
 {
-    let mut plan: ResidentPlan<SpmpBook, 32> = <ResidentPlan<_, _> as Plan<_>>::new(
-        FieldBits::rv32(),
-    );
+    let mut plan = <SpmpPlan as Plan<32>>::new(FieldBits::rv32());
     let tasks = layout.tasks.len();
     match load(&mut plan, layout) {
         Ok(()) => listing(heap, &plan, tasks),
-        Err(refusal) => line_text(heap, refusal.line()),
+        Err(refusal) => line_text(heap, refusal.into()),
     }
 }
 
 // What is printed of a file: its listing, or why it is refused.
+#[tactic(auto, using(crate::proofs::Long::long_files))]
 pub fn report_text(heap: Global, file: &[u8]) -> Result<String, AllocError>
     ensures text { IfOk result (λ s. string_bytes s ≡ report_text file.now) }
     ensures long { LongFiles }
 {
     match Layout::decode(heap, file) {
         Ok(layout) => granted_text(heap, &layout),
-        Err(refusal) => match refusal.line() {
-            Some(line) => line_text(heap, line),
-            None => Err(AllocError),
-        },
+        Err(refusal) => line_text(heap, refusal.line().ok_or(AllocError)?),
     }
 }

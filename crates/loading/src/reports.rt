@@ -4,17 +4,18 @@ ghost use Rattle.loading.specs.Played.{refused_grant};
 ghost use Rattle.loading.specs.Reports.{region_line};
 
 use super::refusal::LoadRefusal;
+use access::numbered::Numbered;
 use layout::lines::RefusalLine;
 
-impl LoadRefusal {
-    // The line that a program prints of it.
-    pub fn line(self) -> RefusalLine
-        ensures { result ≡ region_line (refused_grant self) }
-    {
+// The line that a program prints of a refused grant.
+impl From<LoadRefusal> for RefusalLine {
+    ghost from_gives = { λ refusal line. line ≡ region_line (refused_grant refusal) };
+
+    fn from(refused: LoadRefusal) -> Self {
         RefusalLine::OfRegion {
-            number: self.refusal.number(),
-            task: (self.task % 256) as u8,
-            region: (self.region % 256) as u8,
+            number: refused.refusal.number(),
+            task: (refused.task % 256) as u8,
+            region: (refused.region % 256) as u8,
         }
     }
 }

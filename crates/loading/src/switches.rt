@@ -1,5 +1,6 @@
 // The lines of the tasks' switch words.
 ghost use Rattle.std.specs.Prelude.{◌≡◌, min, IfOk};
+ghost use Rattle.grants.specs.Standing.{owners_of};
 ghost use Rattle.loading.specs.Lines.{switch_line, switch_lines};
 
 use book::book::RuleBook;
@@ -12,16 +13,12 @@ use std::alloc::{AllocError, Global};
 fn listed(tasks: usize) -> u8
     ensures { result ≡ min tasks 16 }
 {
-    if (tasks as u64) < TASKS {
-        tasks as u8
-    } else {
-        TASKS as u8
-    }
+    (tasks as u64).min(TASKS) as u8
 }
 
 // The line of a task.
 fn switch_line<B: RuleBook>(plan: &ResidentPlan<B, 32>, task: u8) -> SwitchLine
-    ensures { result ≡ switch_line plan.now.owners.cells task }
+    ensures { result ≡ switch_line (owners_of plan.now) task }
 {
     let bits = plan.switches_of(u64::from(task));
     SwitchLine {
@@ -37,11 +34,9 @@ pub fn switch_lines<B: RuleBook>(
     plan: &ResidentPlan<B, 32>,
     tasks: usize,
 ) -> Result<Vec<SwitchLine>, AllocError>
-    ensures { IfOk result (λ v. v.items ≡ switch_lines plan.now.owners.cells tasks) }
+    ensures { IfOk result (λ v. v.items ≡ switch_lines (owners_of plan.now) tasks) }
 {
-    let mut lines = Vec::new(heap);
-    for task in 0..listed(tasks) {
-        lines.push(switch_line(plan, task))?;
-    }
-    Ok(lines)
+    (0..listed(tasks))
+        .map(|task| switch_line(plan, task))
+        .collect(heap)
 }

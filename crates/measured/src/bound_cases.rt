@@ -2,25 +2,24 @@
 use crate::tally::Tally;
 use access::field_bits::FieldBits;
 use std::io;
-use table::bounds::resolve;
+use table::bounds::{Bounds, resolve};
 use table::matching::Matching;
 
 fn bound(
-    rt: &HostRuntime,
     tally: &mut Tally,
     matching: Matching,
     address: u64,
     below: u64,
     want: &str,
 ) -> io::Result<()> {
-    let (first, end) = resolve(FieldBits::rv32(), matching, address, below);
-    let name = format!(in rt.alloc(); "{matching:?} {address:08x} over {below:08x}")?;
-    let got = format!(in rt.alloc(); "{first:09x} to {end:09x}")?;
-    tally.case(rt, name.as_str(), got.as_str(), want)
+    let Bounds { first, end } = resolve(FieldBits::rv32(), matching, address, below);
+    let name = format!(in tally.heap(); "{matching:?} {address:08x} over {below:08x}")?;
+    let got = format!(in tally.heap(); "{first:09x} to {end:09x}")?;
+    tally.case(name.as_str(), got.as_str(), want)
 }
 
 // Each way of matching, at its edges.
-pub(crate) fn bounds(rt: &HostRuntime, tally: &mut Tally) -> io::Result<()> {
+pub(crate) fn bounds(tally: &mut Tally) -> io::Result<()> {
     let cases = [
         (Matching::Off, 0xffff_ffff, 0, "000000000 to 000000000"),
         (
@@ -39,7 +38,7 @@ pub(crate) fn bounds(rt: &HostRuntime, tally: &mut Tally) -> io::Result<()> {
         (Matching::Napot, 0xffff_ffff, 0, "000000000 to 800000000"),
     ];
     for (matching, address, below, want) in cases {
-        bound(rt, tally, matching, address, below, want)?;
+        bound(tally, matching, address, below, want)?;
     }
     Ok(())
 }

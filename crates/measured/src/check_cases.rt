@@ -1,8 +1,9 @@
 // Verdicts on a table of the SPMP book.
 use crate::register_cases::registers;
 use crate::tally::Tally;
-use access::access::{Kind, Mode};
+use access::access::{Kind, Request};
 use access::field_bits::FieldBits;
+use access::numbered::Numbered;
 use access::refusal::Refusal;
 use book::spmp_book::SpmpBook;
 use std::alloc::{AllocError, Global};
@@ -24,6 +25,7 @@ fn example() -> Result<SpmpTable, RegisterRefusal> {
     Ok(table)
 }
 
+// As the cases have it: the programs that print a refusal differ in its marks.
 pub(crate) fn text(heap: Global, answer: Result<u8, Refusal>) -> Result<String, AllocError> {
     match answer {
         Ok(entry) => format!(in heap; "pass {entry}"),
@@ -42,143 +44,122 @@ pub(crate) fn text(heap: Global, answer: Result<u8, Refusal>) -> Result<String, 
     }
 }
 
-// An access in mode U, or in mode S with SUM as given.
-#[derive(Clone, Copy)]
-struct Access {
-    kind: Kind,
-    address: u64,
-    width: u64,
-    supervisor: Option<bool>,
-}
-
-fn user(kind: Kind, address: u64, width: u64) -> Access {
-    Access {
+fn verdict(tally: &mut Tally, table: &SpmpTable, request: Request, want: &str) -> io::Result<()> {
+    let Request {
+        mode,
+        sum,
         kind,
         address,
         width,
-        supervisor: None,
-    }
+    } = request;
+    let name = format!(in tally.heap();
+        "{mode:?} {kind:?} of {width} at {address:09x}, SUM {sum}"
+    )?;
+    let got = text(tally.heap(), table.check(request))?;
+    tally.case(name.as_str(), got.as_str(), want)
 }
 
-fn supervisor(sum: bool, kind: Kind, address: u64, width: u64) -> Access {
-    Access {
-        kind,
-        address,
-        width,
-        supervisor: Some(sum),
+fn verdicts(tally: &mut Tally, table: &SpmpTable, cases: &[(Request, &str)]) -> io::Result<()> {
+    for (request, want) in cases {
+        verdict(tally, table, *request, want)?;
     }
-}
-
-fn verdict(
-    rt: &HostRuntime,
-    tally: &mut Tally,
-    table: &SpmpTable,
-    a: Access,
-    want: &str,
-) -> io::Result<()> {
-    let kind = a.kind;
-    let address = a.address;
-    let width = a.width;
-    let (mode, sum) = match a.supervisor {
-        None => (Mode::User, false),
-        Some(sum) => (Mode::Supervisor, sum),
-    };
-    let name = format!(in rt.alloc(); "{mode:?} {kind:?} of {width} at {address:09x}, SUM {sum}")?;
-    let got = text(rt.alloc(), table.check(mode, sum, kind, address, width))?;
-    tally.case(rt, name.as_str(), got.as_str(), want)
+    Ok(())
 }
 
 // At the edges of the entries, in mode U.
-fn user_verdicts(rt: &HostRuntime, tally: &mut Tally, table: &SpmpTable) -> io::Result<()> {
+fn user_verdicts(tally: &mut Tally, table: &SpmpTable) -> io::Result<()> {
     let cases = [
         (
-            user(Kind::Load, 0x8000_0ffe, 4),
+            Request::user(Kind::Load, 0x8000_0ffe, 4),
             "51 cause 13 address 080000ffe entry 0",
         ),
-        (user(Kind::Load, 0x8000_0ffc, 4), "pass 0"),
+        (Request::user(Kind::Load, 0x8000_0ffc, 4), "pass 0"),
         (
-            user(Kind::Load, 0x7fff_fffe, 4),
+            Request::user(Kind::Load, 0x7fff_fffe, 4),
             "51 cause 13 address 07ffffffe entry 0",
         ),
-        (user(Kind::Fetch, 0x8000_0ffe, 2), "pass 0"),
+        (Request::user(Kind::Fetch, 0x8000_0ffe, 2), "pass 0"),
         (
-            user(Kind::Store, 0x8000_0ff8, 8),
+            Request::user(Kind::Store, 0x8000_0ff8, 8),
             "51 cause 15 address 080000ff8 entry 0",
         ),
-        (user(Kind::Store, 0x8000_27f8, 8), "pass 2"),
+        (Request::user(Kind::Store, 0x8000_27f8, 8), "pass 2"),
         (
-            user(Kind::Store, 0x8000_27fc, 8),
+            Request::user(Kind::Store, 0x8000_27fc, 8),
             "51 cause 15 address 0800027fc entry 2",
         ),
         (
-            user(Kind::Fetch, 0x8000_2800, 2),
+            Request::user(Kind::Fetch, 0x8000_2800, 2),
             "51 cause 12 address 080002800 entry 64",
         ),
         (
-            user(Kind::Load, 0x1000_0000, 4),
+            Request::user(Kind::Load, 0x1000_0000, 4),
             "51 cause 13 address 010000000 entry 64",
         ),
     ];
-    for (access, want) in cases {
-        verdict(rt, tally, table, access, want)?;
-    }
-    Ok(())
+    verdicts(tally, table, &cases)
 }
 
 // On the entries of a task and outside, in mode S.
-fn supervisor_verdicts(rt: &HostRuntime, tally: &mut Tally, table: &SpmpTable) -> io::Result<()> {
+fn supervisor_verdicts(tally: &mut Tally, table: &SpmpTable) -> io::Result<()> {
     let cases = [
-        (supervisor(false, Kind::Load, 0x1000_0000, 4), "pass 64"),
         (
-            supervisor(false, Kind::Load, 0x8000_1000, 4),
+            Request::supervisor(false, Kind::Load, 0x1000_0000, 4),
+            "pass 64",
+        ),
+        (
+            Request::supervisor(false, Kind::Load, 0x8000_1000, 4),
             "51 cause 13 address 080001000 entry 2",
         ),
-        (supervisor(true, Kind::Store, 0x8000_1000, 4), "pass 2"),
         (
-            supervisor(true, Kind::Fetch, 0x8000_0000, 2),
+            Request::supervisor(true, Kind::Store, 0x8000_1000, 4),
+            "pass 2",
+        ),
+        (
+            Request::supervisor(true, Kind::Fetch, 0x8000_0000, 2),
             "51 cause 12 address 080000000 entry 0",
         ),
     ];
-    for (access, want) in cases {
-        verdict(rt, tally, table, access, want)?;
-    }
-    Ok(())
+    verdicts(tally, table, &cases)
 }
 
 // At the end of the addresses, and widths that no access has.
-fn ranges(rt: &HostRuntime, tally: &mut Tally, table: &SpmpTable) -> io::Result<()> {
+fn ranges(tally: &mut Tally, table: &SpmpTable) -> io::Result<()> {
     let cases = [
-        (supervisor(false, Kind::Load, 0x3_ffff_fff8, 8), "pass 64"),
-        (supervisor(false, Kind::Load, 0x3_ffff_fff9, 8), "42"),
         (
-            supervisor(false, Kind::Load, 0xffff_ffff_ffff_ffff, 8),
+            Request::supervisor(false, Kind::Load, 0x3_ffff_fff8, 8),
+            "pass 64",
+        ),
+        (
+            Request::supervisor(false, Kind::Load, 0x3_ffff_fff9, 8),
             "42",
         ),
         (
-            supervisor(false, Kind::Load, 0xffff_ffff_ffff_ffff, 0),
+            Request::supervisor(false, Kind::Load, 0xffff_ffff_ffff_ffff, 8),
+            "42",
+        ),
+        (
+            Request::supervisor(false, Kind::Load, 0xffff_ffff_ffff_ffff, 0),
             "41",
         ),
         (
-            supervisor(false, Kind::Store, 0, 0xffff_ffff_ffff_ffff),
+            Request::supervisor(false, Kind::Store, 0, 0xffff_ffff_ffff_ffff),
             "41",
         ),
-        (supervisor(false, Kind::Fetch, 0, 8), "41"),
-        (supervisor(false, Kind::Fetch, 0, 1), "41"),
-        (supervisor(false, Kind::Store, 0, 16), "41"),
+        (Request::supervisor(false, Kind::Fetch, 0, 8), "41"),
+        (Request::supervisor(false, Kind::Fetch, 0, 1), "41"),
+        (Request::supervisor(false, Kind::Store, 0, 16), "41"),
     ];
-    for (access, want) in cases {
-        verdict(rt, tally, table, access, want)?;
-    }
-    Ok(())
+    verdicts(tally, table, &cases)
 }
 
 // The example table, judged and then written to.
-pub(crate) fn example_table(rt: &HostRuntime, tally: &mut Tally) -> io::Result<()> {
+pub(crate) fn example_table(tally: &mut Tally) -> io::Result<()> {
     let Ok(mut table) = example() else {
-        return tally.case(rt, "the example table", "refused", "made");
+        return tally.case("the example table", "refused", "made");
     };
-    user_verdicts(rt, tally, &table)?;
-    supervisor_verdicts(rt, tally, &table)?;
-    ranges(rt, tally, &table)?;
-    registers(rt, tally, &mut table)
+    user_verdicts(tally, &table)?;
+    supervisor_verdicts(tally, &table)?;
+    ranges(tally, &table)?;
+    registers(tally, &mut table)
 }

@@ -1,7 +1,7 @@
 // Grants, withdrawals and selections.
 use crate::check_cases::text;
 use crate::tally::Tally;
-use access::access::{Kind, Mode};
+use access::access::{Kind, Request};
 use access::field_bits::FieldBits;
 use book::spmp_book::SpmpBook;
 use grants::refusal::GrantRefusal;
@@ -14,24 +14,16 @@ type SpmpPlan = ResidentPlan<SpmpBook, 32>;
 const END: u64 = 1 << 34;
 
 fn outcome(
-    rt: &HostRuntime,
     tally: &mut Tally,
     name: &str,
     answer: Result<(), GrantRefusal>,
     want: &str,
 ) -> io::Result<()> {
-    let got = match answer {
-        Ok(()) => format!(in rt.alloc(); "done")?,
-        Err(refusal) => {
-            let number = refusal.number();
-            format!(in rt.alloc(); "{number}")?
-        }
-    };
-    tally.case(rt, name, got.as_str(), want)
+    tally.answer(name, answer.map(|()| "done"), want)
 }
 
 // Grants to one task of a plan that has one region; each case has base, length, rights and what is wanted.
-fn refusals(rt: &HostRuntime, tally: &mut Tally) -> io::Result<()> {
+fn refusals(tally: &mut Tally) -> io::Result<()> {
     let cases = [
         (2, 4, 1, "22"),
         (0, 6, 1, "22"),
@@ -51,9 +43,8 @@ fn refusals(rt: &HostRuntime, tally: &mut Tally) -> io::Result<()> {
     for (base, length, rights, want) in cases {
         let mut plan: SpmpPlan = ResidentPlan::new(FieldBits::rv32());
         let _ = plan.grant(3, 0x2000, 0x1000, 3);
-        let name = format!(in rt.alloc(); "grant of {base:x}, {length:x}, {rights}")?;
+        let name = format!(in tally.heap(); "grant of {base:x}, {length:x}, {rights}")?;
         outcome(
-            rt,
             tally,
             name.as_str(),
             plan.grant(3, base, length, rights),
@@ -75,44 +66,19 @@ fn full() -> SpmpPlan {
 }
 
 // Eight regions are all that a task can hold, and 64 entries all that there are.
-fn limits(rt: &HostRuntime, tally: &mut Tally) -> io::Result<()> {
+fn limits(tally: &mut Tally) -> io::Result<()> {
     let mut plan = full();
-    outcome(
-        rt,
-        tally,
-        "a ninth region",
-        plan.grant(0, 0x10000, 4, 1),
-        "26",
-    )?;
-    outcome(rt, tally, "no entry left", plan.grant(4, 0, 4, 1), "27")?;
-    outcome(rt, tally, "a withdrawal", plan.withdraw(0, 0x100), "done")?;
-    outcome(rt, tally, "the same again", plan.withdraw(0, 0x100), "28")?;
-    outcome(
-        rt,
-        tally,
-        "two entries left",
-        plan.grant(4, 0, 12, 1),
-        "done",
-    )?;
-    outcome(
-        rt,
-        tally,
-        "a grant to task 16",
-        plan.grant(16, 0, 4, 1),
-        "21",
-    )?;
-    outcome(
-        rt,
-        tally,
-        "a withdrawal from 16",
-        plan.withdraw(16, 0),
-        "21",
-    )?;
-    outcome(rt, tally, "a selection of 16", plan.select(16), "21")
+    outcome(tally, "a ninth region", plan.grant(0, 0x10000, 4, 1), "26")?;
+    outcome(tally, "no entry left", plan.grant(4, 0, 4, 1), "27")?;
+    outcome(tally, "a withdrawal", plan.withdraw(0, 0x100), "done")?;
+    outcome(tally, "the same again", plan.withdraw(0, 0x100), "28")?;
+    outcome(tally, "two entries left", plan.grant(4, 0, 12, 1), "done")?;
+    outcome(tally, "a grant to task 16", plan.grant(16, 0, 4, 1), "21")?;
+    outcome(tally, "a withdrawal from 16", plan.withdraw(16, 0), "21")?;
+    outcome(tally, "a selection of 16", plan.select(16), "21")
 }
 
 fn load(
-    rt: &HostRuntime,
     tally: &mut Tally,
     plan: &SpmpPlan,
     name: &str,
@@ -120,10 +86,10 @@ fn load(
     want: &str,
 ) -> io::Result<()> {
     let got = text(
-        rt.alloc(),
-        plan.check(Mode::User, false, Kind::Load, address, 4),
+        tally.heap(),
+        plan.check(Request::user(Kind::Load, address, 4)),
     )?;
-    tally.case(rt, name, got.as_str(), want)
+    tally.case(name, got.as_str(), want)
 }
 
 // The example layout, granted.
@@ -136,26 +102,26 @@ fn example() -> SpmpPlan {
 }
 
 // What tasks may load before and after selections, and after a withdrawal.
-fn selections(rt: &HostRuntime, tally: &mut Tally) -> io::Result<()> {
+fn selections(tally: &mut Tally) -> io::Result<()> {
     let page = 0x8000_0000;
     let across = 0x8000_0ffe;
     let word = 0x1000_0000;
     let nothing = "51 cause 13 address 010000000 entry 64";
     let mut plan = example();
-    load(rt, tally, &plan, "nothing selected", word, nothing)?;
+    load(tally, &plan, "nothing selected", word, nothing)?;
     let _ = plan.select(0);
-    load(rt, tally, &plan, "task 0 in its page", page, "pass 0")?;
+    load(tally, &plan, "task 0 in its page", page, "pass 0")?;
     let partly = "51 cause 13 address 080000ffe entry 0";
-    load(rt, tally, &plan, "task 0 across regions", across, partly)?;
-    load(rt, tally, &plan, "task 0 at another's", word, nothing)?;
+    load(tally, &plan, "task 0 across regions", across, partly)?;
+    load(tally, &plan, "task 0 at another's", word, nothing)?;
     let _ = plan.select(1);
-    load(rt, tally, &plan, "task 1 at its word", word, "pass 3")?;
+    load(tally, &plan, "task 1 at its word", word, "pass 3")?;
     let _ = plan.withdraw(1, word);
-    load(rt, tally, &plan, "task 1 after withdrawal", word, nothing)
+    load(tally, &plan, "task 1 after withdrawal", word, nothing)
 }
 
-pub(crate) fn grants(rt: &HostRuntime, tally: &mut Tally) -> io::Result<()> {
-    refusals(rt, tally)?;
-    limits(rt, tally)?;
-    selections(rt, tally)
+pub(crate) fn grants(tally: &mut Tally) -> io::Result<()> {
+    refusals(tally)?;
+    limits(tally)?;
+    selections(tally)
 }

@@ -10,22 +10,22 @@ mod tally;
 mod worked;
 
 use std::io;
+use table::bounds::Bounds;
 use tally::Tally;
 
 fn main(rt: HostRuntime) -> io::Result<()> {
-    let mut tally = Tally::new();
-    let (first, end) = worked::worked_cases();
-    let page = format!(in rt.alloc(); "{first:09x} to {end:09x}")?;
+    let mut tally = Tally::new(&rt);
+    let Bounds { first, end } = worked::worked_cases();
+    let page = format!(in tally.heap(); "{first:09x} to {end:09x}")?;
     tally.case(
-        &rt,
         "the page of NAPOT 200001ff",
         page.as_str(),
         "080000000 to 080001000",
     )?;
-    bound_cases::bounds(&rt, &mut tally)?;
-    row_cases::spmp_rows(&rt, &mut tally)?;
-    row_cases::guest_bytes(&rt, &mut tally)?;
-    check_cases::example_table(&rt, &mut tally)?;
-    grant_cases::grants(&rt, &mut tally)?;
-    tally.close(&rt)
+    bound_cases::bounds(&mut tally)?;
+    row_cases::spmp_rows(&mut tally)?;
+    row_cases::guest_bytes(&mut tally)?;
+    check_cases::example_table(&mut tally)?;
+    grant_cases::grants(&mut tally)?;
+    tally.close()
 }

@@ -12,8 +12,8 @@ fn letter(yes: bool, letter: char) -> char {
 }
 
 // The rights that a byte gives in a mode, as three letters each for U, S with SUM clear and S with SUM set.
-fn row<B: RuleBook>(rt: &HostRuntime, tally: &mut Tally, byte: u8, want: &str) -> io::Result<()> {
-    let mut got = String::new(rt.alloc());
+fn row<B: RuleBook>(tally: &mut Tally, byte: u8, want: &str) -> io::Result<()> {
+    let mut got = String::new(tally.heap());
     if B::legal(byte) {
         three::<B>(&mut got, byte, Mode::User, false)?;
         got.push(' ')?;
@@ -23,8 +23,8 @@ fn row<B: RuleBook>(rt: &HostRuntime, tally: &mut Tally, byte: u8, want: &str) -
     } else {
         got.push_str("not legal")?;
     }
-    let name = format!(in rt.alloc(); "byte {byte:02x}")?;
-    tally.case(rt, name.as_str(), got.as_str(), want)
+    let name = format!(in tally.heap(); "byte {byte:02x}")?;
+    tally.case(name.as_str(), got.as_str(), want)
 }
 
 fn three<B: RuleBook>(
@@ -38,8 +38,15 @@ fn three<B: RuleBook>(
     text.push(letter(B::permits(byte, mode, sum, Kind::Fetch), 'x'))
 }
 
+fn rows<B: RuleBook>(tally: &mut Tally, cases: &[(u8, &str)]) -> io::Result<()> {
+    for (byte, want) in cases {
+        row::<B>(tally, *byte, want)?;
+    }
+    Ok(())
+}
+
 // The sixteen rows of S R W X, with an A field that matters to none of them.
-pub(crate) fn spmp_rows(rt: &HostRuntime, tally: &mut Tally) -> io::Result<()> {
+pub(crate) fn spmp_rows(tally: &mut Tally) -> io::Result<()> {
     let cases = [
         (0x08, "--- --- ---"),
         (0x0c, "--x --- ---"),
@@ -59,14 +66,11 @@ pub(crate) fn spmp_rows(rt: &HostRuntime, tally: &mut Tally) -> io::Result<()> {
         (0x8f, "r-- r-- r--"),
         (0x20, "not legal"),
     ];
-    for (byte, want) in cases {
-        row::<SpmpBook>(rt, tally, byte, want)?;
-    }
-    Ok(())
+    rows::<SpmpBook>(tally, &cases)
 }
 
 // Bytes of the guest book, legal and not.
-pub(crate) fn guest_bytes(rt: &HostRuntime, tally: &mut Tally) -> io::Result<()> {
+pub(crate) fn guest_bytes(tally: &mut Tally) -> io::Result<()> {
     let cases = [
         (0x00, "--- --- ---"),
         (0x1f, "rwx rwx rwx"),
@@ -76,8 +80,5 @@ pub(crate) fn guest_bytes(rt: &HostRuntime, tally: &mut Tally) -> io::Result<()>
         (0x81, "not legal"),
         (0x41, "not legal"),
     ];
-    for (byte, want) in cases {
-        row::<GuestBook>(rt, tally, byte, want)?;
-    }
-    Ok(())
+    rows::<GuestBook>(tally, &cases)
 }

@@ -1,7 +1,7 @@
 -- What an access to a memory answers, and the memory after it. Assumes nothing.
 use Rattle.std.specs.Prelude.{ℕ, zero, suc, ◌+◌, ◌-◌, ◌*◌, ◌/◌, ◌%◌, ◌^◌, Bool, cond, ◌&&◌, Ok, Err, Result, nat_le, nat_lt}
 use Rattle.access.specs.declared.access.Kind.{Kind}
-use Rattle.access.specs.declared.access.Kind.TheVariants.{Load, Store, Fetch}
+use Rattle.access.specs.declared.access.Kind.TheVariants.{Store}
 use Rattle.memory.specs.declared.not_admitted.NotAdmitted.{NotAdmitted}
 use Rattle.memory.specs.Meaning.{MemoryMeaning}
 
@@ -29,14 +29,6 @@ stored m a w v = record { size = m.size; byte = replaced m.byte a w v; admits = 
 -- A load or a fetch answers the value if it is admitted.
 abbrev pub read_answer : MemoryMeaning → Kind → ℕ → ℕ → Result ℕ NotAdmitted
 read_answer m k a w = cond (m.admits k a w) (Ok (value_at m.byte a w)) (Err (record {}))
-
--- A load.
-abbrev pub load_answer : MemoryMeaning → ℕ → ℕ → Result ℕ NotAdmitted
-load_answer m a w = read_answer m Load a w
-
--- A fetch.
-abbrev pub fetch_answer : MemoryMeaning → ℕ → ℕ → Result ℕ NotAdmitted
-fetch_answer m a w = read_answer m Fetch a w
 
 -- A store answers that it was admitted or not.
 abbrev pub store_answer : MemoryMeaning → ℕ → ℕ → Result (Unit {0}) NotAdmitted

@@ -6,9 +6,10 @@ ghost use Rattle.memory.specs.Lawful.{bank_lawful};
 use crate::bytes::{read_at, write_at};
 use crate::memory::Memory;
 use crate::not_admitted::NotAdmitted;
-use crate::range::{ends_within, memory_end};
-use access::access::Kind;
+use crate::range::memory_end;
+use access::access::{Kind, Reading};
 use access::field_bits::FieldBits;
+use access::range::ends_within;
 
 // Whole registers can be loaded and stored; nothing can be fetched.
 #[derive(Drop)]
@@ -18,6 +19,7 @@ pub struct Bank<const F: u32> {
 
 impl<const F: u32> Bank<F> {
     // A bank of zeros.
+    #[tactic(auto, using(crate::proofs::Delivered::zero_bank))]
     pub fn new(_bits: FieldBits<F>) -> Self
         ensures zeros { result.bytes ≡ replicate 64 0 }
         ensures bank { ZeroBank (bank_meaning F result.bytes) }
@@ -34,8 +36,7 @@ impl<const F: u32> Memory<F> for Bank<F> {
     ghost lenders = { λ _. [] };
 
     fn size(&self) -> u64 {
-        let end = memory_end::<F>();
-        if end < 64 { end } else { 64 }
+        memory_end::<F>().min(64)
     }
 
     fn admits(&self, kind: Kind, address: u64, width: u64) -> bool {
@@ -47,15 +48,11 @@ impl<const F: u32> Memory<F> for Bank<F> {
         }
     }
 
-    fn load(&self, address: u64, width: u64) -> Result<u64, NotAdmitted> {
-        if !self.admits(Kind::Load, address, width) {
+    fn read(&self, reading: Reading, address: u64, width: u64) -> Result<u64, NotAdmitted> {
+        if !self.admits(reading.into(), address, width) {
             return Err(NotAdmitted);
         }
         Ok(read_at(&self.bytes, address as usize, width as usize))
-    }
-
-    fn fetch(&self, _address: u64, _width: u64) -> Result<u64, NotAdmitted> {
-        Err(NotAdmitted)
     }
 
     fn store(&mut self, address: u64, width: u64, value: u64) -> Result<(), NotAdmitted> {

@@ -11,6 +11,7 @@ use crate::transfer::copy_word;
 use access::field_bits::FieldBits;
 
 // Stores the value into the buffer.
+#[tactic(auto, using(crate::proofs::Buffers::stored_into))]
 pub fn store_into<const F: u32>(
     bits: FieldBits<F>,
     buffer: &mut [u8],

@@ -1,15 +1,15 @@
 // RAM in a buffer that the caller lends.
 ghost use Rattle.std.specs.Prelude.{◌≡◌, [], ◌∷◌};
-ghost use Rattle.memory.specs.Effects.{read_answer};
 ghost use Rattle.memory.specs.Ram.{ram_meaning, RamOver};
 ghost use Rattle.memory.specs.Lawful.{ram_lawful};
 
 use crate::bytes::{read_at, write_at};
 use crate::memory::Memory;
 use crate::not_admitted::NotAdmitted;
-use crate::range::{ends_within, memory_end};
-use access::access::Kind;
+use crate::range::memory_end;
+use access::access::{Kind, Reading};
 use access::field_bits::FieldBits;
+use access::range::ends_within;
 
 // As much of the buffer as there are addresses, open to every well-formed access that stays inside.
 #[derive(Drop)]
@@ -26,16 +26,6 @@ impl<'a, const F: u32> Ram<'a, F> {
     {
         Ram { bytes }
     }
-
-    // A load or a fetch.
-    fn read(&self, kind: Kind, address: u64, width: u64) -> Result<u64, NotAdmitted>
-        ensures { result ≡ read_answer (ram_meaning F self.now.bytes.now) kind address width }
-    {
-        if !self.admits(kind, address, width) {
-            return Err(NotAdmitted);
-        }
-        Ok(read_at(self.bytes, address as usize, width as usize))
-    }
 }
 
 impl<'a, const F: u32> Memory<F> for Ram<'a, F> {
@@ -47,20 +37,18 @@ impl<'a, const F: u32> Memory<F> for Ram<'a, F> {
 
     fn size(&self) -> u64 {
         let length = self.bytes.len() as u64;
-        let end = memory_end::<F>();
-        if length < end { length } else { end }
+        length.min(memory_end::<F>())
     }
 
     fn admits(&self, kind: Kind, address: u64, width: u64) -> bool {
         kind.has_width(width) && ends_within(self.size(), address, width)
     }
 
-    fn load(&self, address: u64, width: u64) -> Result<u64, NotAdmitted> {
-        self.read(Kind::Load, address, width)
-    }
-
-    fn fetch(&self, address: u64, width: u64) -> Result<u64, NotAdmitted> {
-        self.read(Kind::Fetch, address, width)
+    fn read(&self, reading: Reading, address: u64, width: u64) -> Result<u64, NotAdmitted> {
+        if !self.admits(reading.into(), address, width) {
+            return Err(NotAdmitted);
+        }
+        Ok(read_at(self.bytes, address as usize, width as usize))
     }
 
     fn store(&mut self, address: u64, width: u64, value: u64) -> Result<(), NotAdmitted> {

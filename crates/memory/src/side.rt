@@ -1,8 +1,7 @@
-// The side of a pair of memories that an access goes to.
+// The side of a pair of memories that holds every byte of an access.
 #[derive(Clone, Copy)]
 pub(crate) enum Side {
     First,
     // The address there.
     Second(u64),
-    Neither,
 }

@@ -5,8 +5,10 @@ ghost use Rattle.memory.specs.Transfers.{read_back, copy_answer, copied};
 
 use crate::memory::Memory;
 use crate::not_admitted::NotAdmitted;
+use access::access::Reading;
 
 // Stores the value and loads it back.
+#[tactic(auto, using(crate::proofs::Meanings::value_stored))]
 pub fn store_and_load<M: Memory<F>, const F: u32>(
     memory: &mut M,
     address: u64,
@@ -18,7 +20,7 @@ pub fn store_and_load<M: Memory<F>, const F: u32>(
     ensures borrows { M.Memory.lenders memory.new ≡ M.Memory.lenders memory.old }
 {
     memory.store(address, width, value)?;
-    memory.load(address, width)
+    memory.read(Reading::Load, address, width)
 }
 
 // Copies a 32-bit word.
@@ -31,6 +33,6 @@ pub fn copy_word<M: Memory<F>, const F: u32>(
     ensures after { M.Memory.meaning memory.new ≡ copied (M.Memory.meaning memory.old) from to }
     ensures borrows { M.Memory.lenders memory.new ≡ M.Memory.lenders memory.old }
 {
-    let word = memory.load(from, 4)?;
+    let word = memory.read(Reading::Load, from, 4)?;
     memory.store(to, 4, word)
 }

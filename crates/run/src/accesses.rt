@@ -1,36 +1,17 @@
 // Accesses of a run.
+// There are two functions, since the harts are two types with other calls: a trait over both would need two impls as long as these.
 ghost use Rattle.std.specs.Prelude.{◌≡◌, false, List};
 ghost use Rattle.access.specs.declared.access.Mode.{Mode};
 ghost use Rattle.grants.specs.declared.call.PlanCall.{PlanCall};
 ghost use Rattle.history.specs.Runs.{Accessed};
-ghost use Rattle.run.specs.Results.{valued, stored, memory_with};
+ghost use Rattle.run.specs.Results.{memory_with};
 
-use access::refusal::Refusal;
+use access::access::Reading;
 use grants::plan::Plan;
 use hart::harts::{SupervisorHart, UserHart};
 use hart::status::Status;
 use history::call::{Access, Answer};
 use memory::memory::Memory;
-
-// What a load or a fetch gave, as the answer of a run.
-fn valued(res: Result<u64, Refusal>) -> Answer
-    ensures { result ≡ valued res }
-{
-    match res {
-        Ok(value) => Answer::Value(value),
-        Err(refusal) => Answer::Refused(refusal),
-    }
-}
-
-// The same of a store.
-fn stored(res: Result<(), Refusal>) -> Answer
-    ensures { result ≡ stored res }
-{
-    match res {
-        Ok(()) => Answer::Done,
-        Err(refusal) => Answer::Refused(refusal),
-    }
-}
 
 // Makes an access of the supervisor.
 pub(crate) fn supervisor_access<P: Plan<F>, M: Memory<F>, const F: u32>(
@@ -46,13 +27,19 @@ pub(crate) fn supervisor_access<P: Plan<F>, M: Memory<F>, const F: u32>(
     let mut status = Status::new(0);
     status.set_sum(sum);
     match access {
-        Access::Load { address, width } => valued(hart.load(&status, memory, address, width)),
+        Access::Load { address, width } => {
+            hart.read(&status, memory, Reading::Load, address, width)
+                .into()
+        }
         Access::Store {
             address,
             width,
             value,
-        } => stored(hart.store(&status, memory, address, width, value)),
-        Access::Fetch { address, width } => valued(hart.fetch(&status, memory, address, width)),
+        } => hart.store(&status, memory, address, width, value).into(),
+        Access::Fetch { address, width } => {
+            hart.read(&status, memory, Reading::Fetch, address, width)
+                .into()
+        }
     }
 }
 
@@ -67,12 +54,14 @@ pub(crate) fn task_access<P: Plan<F>, M: Memory<F>, const F: u32>(
     ensures borrows { M.Memory.lenders memory.new ≡ M.Memory.lenders memory.old }
 {
     match access {
-        Access::Load { address, width } => valued(hart.load(memory, address, width)),
+        Access::Load { address, width } => hart.read(memory, Reading::Load, address, width).into(),
         Access::Store {
             address,
             width,
             value,
-        } => stored(hart.store(memory, address, width, value)),
-        Access::Fetch { address, width } => valued(hart.fetch(memory, address, width)),
+        } => hart.store(memory, address, width, value).into(),
+        Access::Fetch { address, width } => hart
+            .read(memory, Reading::Fetch, address, width)
+            .into(),
     }
 }

@@ -1,25 +1,13 @@
 // Grants, withdrawals and selections of a run.
-ghost use Rattle.std.specs.Prelude.{◌≡◌, List, ◌∷◌};
+ghost use Rattle.std.specs.Prelude.{List, ◌∷◌};
 ghost use Rattle.grants.specs.Plans.{answer_after};
 ghost use Rattle.grants.specs.declared.call.PlanCall.{PlanCall};
 ghost use Rattle.history.specs.Runs.{PlanAnswered};
-ghost use Rattle.run.specs.Results.{accepted};
 
 use grants::call::PlanCall;
 use grants::plan::Plan;
-use grants::refusal::GrantRefusal;
 use hart::harts::SupervisorHart;
 use history::call::Answer;
-
-// What a plan answered, as the answer of a run.
-fn accepted(res: Result<(), GrantRefusal>) -> Answer
-    ensures { result ≡ accepted res }
-{
-    match res {
-        Ok(()) => Answer::Done,
-        Err(refusal) => Answer::Declined(refusal),
-    }
-}
 
 // Makes a grant, a withdrawal or a selection.
 pub(crate) fn plan_call<P: Plan<F>, const F: u32>(
@@ -35,8 +23,8 @@ pub(crate) fn plan_call<P: Plan<F>, const F: u32>(
             base,
             length,
             rights,
-        } => accepted(hart.grant(task, base, length, rights)),
-        PlanCall::Withdraw { task, base } => accepted(hart.withdraw(task, base)),
-        PlanCall::Select { task } => accepted(hart.select(task)),
+        } => hart.grant(task, base, length, rights).into(),
+        PlanCall::Withdraw { task, base } => hart.withdraw(task, base).into(),
+        PlanCall::Select { task } => hart.select(task).into(),
     }
 }

@@ -4,5 +4,6 @@ pub mod Permits
 pub mod Verdicts
 pub mod RegisterBytes
 pub mod SwitchWords
+pub mod FromFn
 pub mod Contexts
 pub mod Legality

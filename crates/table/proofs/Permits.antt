@@ -1,7 +1,6 @@
 -- What the deciding entry permits, and the answers of a check. Assumes nothing.
-use Rattle.std.proofs.Common.{◌≡◌, ℕ, ◌<◌, Bool, true, Some, None, Decides as Tells, MatchBool, Option, sym, refl, ◌∙◌, subst}
-use Rattle.std.proofs.lemmas.Bool.{lt-ltb}
-use Rattle.std.proofs.lemmas.Bool.Decides.{when_true}
+use Rattle.std.proofs.Common.{arith, ◌≡◌, ℕ, ◌<◌, Bool, true, Some, None, Decides as Tells, Option, sym, refl, subst}
+use Rattle.std.proofs.lemmas.Bool.Decides.{nat_tests}
 use Rattle.access.specs.Cases.{Report}
 use Rattle.access.specs.Refusals.{stopped}
 use Rattle.access.specs.declared.access.Kind.{Kind}
@@ -9,16 +8,14 @@ use Rattle.access.specs.declared.access.Mode.{Mode}
 use Rattle.access.specs.declared.access.Mode.TheVariants.{Machine, Supervisor, User}
 use Rattle.book.specs.Books.{Book}
 use Rattle.table.specs.Registers.{Registers, bounds_at}
-use Rattle.table.specs.Checks.{EveryByte, Deciding, Permitted, Passes, Stops, PassesWith, RefusedAs}
-
-pub permitted_by_entry : (b : Book) (r : Registers) (e : ℕ) (m : Mode) (sum : Bool) (k : Kind) (a w : ℕ) (v : Bool)
-    → e < 64 → EveryByte (bounds_at r e) a w → v ≡ b.permits (r.config e) m sum k → Tells v (Permitted b r e m sum k a w)
-permitted_by_entry b r e m sum k a w v h every q =
-    let P : Type 0 = EveryByte (bounds_at r e) a w × (b.permits (r.config e) m sum k ≡ true) in
-    let Q : Type 0 = b.unmatched m ≡ true in
-    (λ t. subst (λ (x : Bool). MatchBool x P Q) (sym (lt-ltb e 64 h)) (every, sym q ∙ t), λ p. q ∙ (when_true P Q (lt-ltb e 64 h) p).1)
+use Rattle.table.specs.Checks.{EveryByte, Deciding, Permitted, entry_number, Passes, Stops, PassesWith, RefusedAs}
 
 module _ (b : Book) (r : Registers) (m : Mode) (sum : Bool) (k : Kind) (a w : ℕ) where
+  -- an entry decides, and has all of the access or not
+  pub permitted_by_entry : (v : Bool) (o : Option ℕ) (i : ℕ) → o ≡ Some i → i < 64
+      → Tells v (EveryByte (bounds_at r i) a w × (b.permits (r.config i) m sum k ≡ true)) → Tells v (Permitted b r (entry_number o) m sum k a w)
+  permitted_by_entry v o i e h t = grind (arith, nat_tests)
+
   -- the answers of a check, by what is wrong with the access itself
   pub passes_with : (v : Option Report) (e : ℕ) → v ≡ None → Passes b r m sum k a w e → PassesWith b r m sum k a w v e
   passes_with v e n p = subst (λ (x : Option Report). PassesWith b r m sum k a w x e) (sym n) p

@@ -1,55 +1,32 @@
 -- Trailing ones: what the machine counts, and what the count says by powers of two. Assumes nothing.
-use Rattle.std.proofs.Common.{◌≡◌, ℕ, zero, suc, ◌+◌, ◌-◌, ◌*◌, ◌/◌, ◌%◌, ◌^◌, ◌<◌, ◌≤◌, cond, eqb, ◌⊎◌, sym, refl, ap, ◌∙◌, subst, inl, inr, mul_assoc, add-mul, pow-suc, arith, pow_pos, pow_mono}
+use Rattle.std.proofs.Common.{◌≡◌, ℕ, zero, suc, ◌+◌, ◌-◌, ◌*◌, ◌/◌, ◌%◌, ◌^◌, ◌<◌, ◌≤◌, cond, eqb, ◌⊎◌, sym, refl, ap, ◌∙◌, subst, ⊎_elim, mul_assoc, add-mul, pow-suc, arith, pow_pos, pow_mono}
 use native.Mathlib.Nat.{div-eq_of_lt}
-use lib.Count.{count_trailing_zeros, under}
+use lib.Count.{count_trailing_zeros}
+use Rattle.std.proofs.lemmas.Bool.Decides.{nat_tests}
 use Rattle.std.proofs.lemmas.Nat.{shr-shr, pow-add}
 use Rattle.table.specs.Bounds.{trailing_ones, napot_first, resolved, Block, FieldLaws}
 use Rattle.table.specs.declared.matching.Matching.TheVariants.{Napot}
 
-odd_or_even : (a : ℕ) → (a % 2 ≡ 0) ⊎ (a % 2 ≡ 1)
-odd_or_even a = go (a % 2) (omega arith)
-  where
-    go : (d : ℕ) → d < 2 → (d ≡ 0) ⊎ (d ≡ 1)
-    go zero h = inl refl
-    go (suc zero) h = inr refl
-    go (suc (suc d)) h = absurd (omega arith)
+ones_step : (k a : ℕ) → trailing_ones (suc k) a ≡ cond (eqb (a % 2) 1) (suc (trailing_ones k (a / 2))) 0
+unfolding trailing_ones
+ones_step k a = grind (arith, nat_tests)
 
 ones_even : (k a : ℕ) → a % 2 ≡ 0 → trailing_ones (suc k) a ≡ 0
-unfolding trailing_ones
-ones_even k a e = let h : a / 2 ^ 0 % 2 ≡ 0 = omega arith in λ i. cond (eqb (h i) 1) (suc (trailing_ones k (a / 2))) 0
+ones_even k a e = grind (arith, nat_tests, ones_step)
 
 ones_odd : (k a : ℕ) → a % 2 ≡ 1 → trailing_ones (suc k) a ≡ suc (trailing_ones k (a / 2))
-unfolding trailing_ones
-ones_odd k a e = let h : a / 2 ^ 0 % 2 ≡ 1 = omega arith in λ i. cond (eqb (h i) 1) (suc (trailing_ones k (a / 2))) 0
-
-pub ones_le : (k a : ℕ) → trailing_ones k a ≤ k
-unfolding trailing_ones
-ones_le zero a = omega arith
-ones_le (suc k) a = go (ones_le k (a / 2)) (odd_or_even a)
-  where
-    go : trailing_ones k (a / 2) ≤ k → (a % 2 ≡ 0) ⊎ (a % 2 ≡ 1) → trailing_ones (suc k) a ≤ suc k
-    go ih (inl e) = omega (arith, ones_even k a e)
-    go ih (inr e) = omega (arith, ones_odd k a e)
-
-module _ (k a : ℕ) (h : a < 2 ^ suc k) (ih : count_trailing_zeros k (2 ^ k - 1 - a / 2) ≡ trailing_ones k (a / 2)) where
-  half : (2 ^ suc k - 1 - a) / 2 ≡ 2 ^ k - 1 - a / 2
-  half = let p = pow-suc 2 k in omega arith
-
-  step : (a % 2 ≡ 0) ⊎ (a % 2 ≡ 1) → under ((2 ^ suc k - 1 - a) % 2) (count_trailing_zeros k ((2 ^ suc k - 1 - a) / 2)) ≡ trailing_ones (suc k) a
-  step (inl e) =
-      let p = pow-suc 2 k in
-      let d : (2 ^ suc k - 1 - a) % 2 ≡ 1 = omega arith in
-      ap (λ (n : ℕ). under n (count_trailing_zeros k ((2 ^ suc k - 1 - a) / 2))) d ∙ sym (ones_even k a e)
-  step (inr e) =
-      let p = pow-suc 2 k in
-      let d : (2 ^ suc k - 1 - a) % 2 ≡ 0 = omega arith in
-      ap (λ (n : ℕ). under n (count_trailing_zeros k ((2 ^ suc k - 1 - a) / 2))) d ∙ ap (λ (n : ℕ). suc (count_trailing_zeros k n)) half ∙ ap suc ih ∙ sym (ones_odd k a e)
+ones_odd k a e = grind (arith, nat_tests, ones_step)
 
 -- the zeros at the end of the complement
 pub ones_of_complement : (k a : ℕ) → a < 2 ^ k → count_trailing_zeros k (2 ^ k - 1 - a) ≡ trailing_ones k a
 unfolding trailing_ones count_trailing_zeros
 ones_of_complement zero a h = refl
-ones_of_complement (suc k) a h = step k a h (ones_of_complement k (a / 2) (let p = pow-suc 2 k in omega arith)) (odd_or_even a)
+ones_of_complement (suc k) a h =
+    let p = pow-suc 2 k in
+    let ih = ones_of_complement k (a / 2) (omega arith) in
+    let half : (2 ^ suc k - 1 - a) / 2 ≡ 2 ^ k - 1 - a / 2 = omega arith in
+    let s = ones_step k a in
+    grind (arith, nat_tests)
 
 -- the number and one make an odd multiple of the power
 OddAt : ℕ → ℕ → Type 0
@@ -71,11 +48,14 @@ odd_more a n e ih =
 ones_odd_multiple : (k a : ℕ) → a < 2 ^ k → OddAt (trailing_ones k a) a
 unfolding trailing_ones OddAt
 ones_odd_multiple zero a h = let z : a ≡ 0 = omega arith in odd_none a (omega arith)
-ones_odd_multiple (suc k) a h = go (ones_odd_multiple k (a / 2) (let p = pow-suc 2 k in omega arith)) (odd_or_even a)
-  where
-    go : OddAt (trailing_ones k (a / 2)) (a / 2) → (a % 2 ≡ 0) ⊎ (a % 2 ≡ 1) → OddAt (trailing_ones (suc k) a) a
-    go ih (inl e) = subst (λ (n : ℕ). OddAt n a) (sym (ones_even k a e)) (odd_none a e)
-    go ih (inr e) = subst (λ (n : ℕ). OddAt n a) (sym (ones_odd k a e)) (odd_more a (trailing_ones k (a / 2)) e ih)
+ones_odd_multiple (suc k) a h =
+    let p = pow-suc 2 k in
+    let ih = ones_odd_multiple k (a / 2) (omega arith) in
+    let cases : (a % 2 ≡ 0) ⊎ (a % 2 ≡ 1) = grind arith in
+    ⊎_elim
+    (λ e. subst (λ (n : ℕ). OddAt n a) (sym (ones_even k a e)) (odd_none a e))
+    (λ e. subst (λ (n : ℕ). OddAt n a) (sym (ones_odd k a e)) (odd_more a (trailing_ones k (a / 2)) e ih))
+    cases
 
 -- what the bounds of a NAPOT register are
 pub napot_block : (k a : ℕ) → a < 2 ^ k → Block a (napot_first (trailing_ones k a) a) (napot_first (trailing_ones k a) a + 2 ^ (trailing_ones k a + 3))
@@ -99,26 +79,26 @@ napot_block k a h =
 -- a number of at most f bits has at most f trailing ones
 pub ones_fit : (f k a : ℕ) → a < 2 ^ f → trailing_ones k a ≤ f
 unfolding trailing_ones
-ones_fit zero zero a h = omega arith
-ones_fit zero (suc k) a h = let z : a ≡ 0 = omega arith in omega (arith, ones_even k a (omega arith))
-ones_fit (suc f) zero a h = omega arith
-ones_fit (suc f) (suc k) a h = go (ones_fit f k (a / 2) (let p = pow-suc 2 f in omega arith)) (odd_or_even a)
-  where
-    go : trailing_ones k (a / 2) ≤ f → (a % 2 ≡ 0) ⊎ (a % 2 ≡ 1) → trailing_ones (suc k) a ≤ suc f
-    go ih (inl e) = omega (arith, ones_even k a e)
-    go ih (inr e) = omega (arith, ones_odd k a e)
+ones_fit f zero a h = omega arith
+ones_fit zero (suc k) a h = grind (arith, nat_tests, ones_step)
+ones_fit (suc f) (suc k) a h =
+    let p = pow-suc 2 f in
+    let ih = ones_fit f k (a / 2) (omega arith) in
+    let s = ones_step k a in
+    grind (arith, nat_tests)
 
 -- the count does not depend on the bits above the number
 ones_any_width : (f k a : ℕ) → f ≤ k → a < 2 ^ f → trailing_ones k a ≡ trailing_ones f a
 unfolding trailing_ones
 ones_any_width zero zero a l h = refl
-ones_any_width zero (suc k) a l h = let z : a ≡ 0 = omega arith in ones_even k a (omega arith)
+ones_any_width zero (suc k) a l h = grind (arith, nat_tests, ones_step)
 ones_any_width (suc f) zero a l h = absurd (omega arith)
-ones_any_width (suc f) (suc k) a l h = go (ones_any_width f k (a / 2) (omega arith) (let p = pow-suc 2 f in omega arith)) (odd_or_even a)
-  where
-    go : trailing_ones k (a / 2) ≡ trailing_ones f (a / 2) → (a % 2 ≡ 0) ⊎ (a % 2 ≡ 1) → trailing_ones (suc k) a ≡ trailing_ones (suc f) a
-    go ih (inl e) = ones_even k a e ∙ sym (ones_even f a e)
-    go ih (inr e) = ones_odd k a e ∙ ap suc ih ∙ sym (ones_odd f a e)
+ones_any_width (suc f) (suc k) a l h =
+    let p = pow-suc 2 f in
+    let ih = ones_any_width f k (a / 2) (omega arith) (omega arith) in
+    let s = ones_step k a in
+    let t = ones_step f a in
+    grind (arith, nat_tests)
 
 all_ones_lem : (f : ℕ) → trailing_ones f (2 ^ f - 1) ≡ f
 unfolding trailing_ones

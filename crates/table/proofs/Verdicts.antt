@@ -1,6 +1,5 @@
 -- A check has one answer. Assumes nothing.
-use Rattle.std.proofs.Common.{◌≡◌, ℕ, Bool, Some, None, Ok, Err, Option, Result, sym, ap, ◌∙◌, subst, ⊎_elim, arith}
-use Rattle.std.proofs.lemmas.Bool.{cases_order}
+use Rattle.std.proofs.Common.{◌≡◌, ℕ, Bool, Some, None, Ok, Err, Option, Result, sym, ap, ◌∙◌, subst, arith}
 use Rattle.access.specs.Cases.{Report}
 use Rattle.access.specs.Formed.{ill_formed}
 use Rattle.access.specs.Refusals.{report_of, stopped}
@@ -14,10 +13,7 @@ use Rattle.table.specs.Registers.{Registers}
 use Rattle.table.specs.Checks.{Deciding, Permitted, Passes, Stops, PassesWith, RefusedAs, Checked, OneAnswer}
 
 pub deciding_one : (r : Registers) (a w e f : ℕ) → Deciding r a w e → Deciding r a w f → e ≡ f
-deciding_one r a w e f p q =
-    let pe = p.0 in
-    let qe = q.0 in
-    ⊎_elim (λ x. x) (⊎_elim (λ l. absurd (q.1 e l (p.2 (omega arith)))) (λ l. absurd (p.1 f l (q.2 (omega arith))))) (cases_order e f)
+deciding_one r a w e f p q = grind arith
 
 module _ (b : Book) (r : Registers) (sum : Bool) (k : Kind) (a w : ℕ) where
   passes_one : (m : Mode) (e f : ℕ) → Passes b r m sum k a w e → Passes b r m sum k a w f → e ≡ f

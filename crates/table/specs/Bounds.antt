@@ -1,6 +1,7 @@
 -- What an entry covers: from its first byte up to its end, which it does not cover. Assumes nothing.
 use Rattle.std.specs.Prelude.{◌≡◌, ℕ, zero, suc, ◌+◌, ◌-◌, ◌*◌, ◌/◌, ◌^◌, ◌<◌, cond}
 use Rattle.book.specs.Bits.{bit, a_field}
+use Rattle.table.specs.declared.bounds.Bounds.{Bounds}
 use Rattle.table.specs.declared.matching.Matching.{Matching}
 use Rattle.table.specs.declared.matching.Matching.TheVariants.{Off, Tor, Na4, Napot}
 
@@ -29,6 +30,10 @@ resolved Off a below = (0, 0)
 resolved Tor a below = (4 * below, 4 * a)
 resolved Na4 a below = (4 * a, 4 * a + 4)
 resolved Napot a below = (napot_first (trailing_ones 64 a) a, napot_first (trailing_ones 64 a) a + 2 ^ (trailing_ones 64 a + 3))
+
+-- Bounds as a pair.
+abbrev pub pair_of : Bounds → ℕ × ℕ
+pair_of b = (b.first, b.end)
 
 -- What a NAPOT register says, by powers of two: the register and one make an odd multiple, 2 q + 1, of 2 ^ n, and the block is the q-th of
 -- those of 2 ^ (n + 3) bytes.

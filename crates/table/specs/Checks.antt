@@ -31,6 +31,11 @@ Holds r i a w = (active r i ≡ true) × AnyByte (bounds_at r i) a w
 abbrev pub Deciding : Registers → ℕ → ℕ → ℕ → Type 0
 Deciding r a w e = (e ≤ 64) × ((i : ℕ) → i < e → Holds r i a w → ⊥) × (e < 64 → Holds r e a w)
 
+-- The number of the deciding entry, 64 for none.
+abbrev pub entry_number : Option ℕ → ℕ
+entry_number (Some i) = i
+entry_number None = 64
+
 -- What the deciding entry permits: nothing unless it holds all of the access, and then what the book reads in its configuration. Where no
 -- entry decides, the book has an answer of its own.
 abbrev pub Permitted : Book → Registers → ℕ → Mode → Bool → Kind → ℕ → ℕ → Type 0

@@ -1,11 +1,19 @@
 // What an entry covers: from its first byte up to its end, which it does not cover.
-ghost use Rattle.std.specs.Prelude.{◌≡◌, ◌+◌, ◌%◌, ◌^◌, ◌<◌, ◌≤◌};
-ghost use Rattle.table.specs.Bounds.{matching_of, resolved, trailing_ones, napot_first, NapotBlock, FieldLaws};
+ghost use Rattle.std.specs.Prelude.{◌≡◌, ◌+◌, ◌%◌, ◌^◌};
+ghost use Rattle.table.specs.Bounds.{matching_of, resolved, pair_of, trailing_ones, napot_first, NapotBlock, FieldLaws};
 
+use super::field::Field;
 use super::matching::Matching;
 use access::field_bits::FieldBits;
 
-// The A field of a configuration byte.
+// The first byte that is covered, and the end.
+#[derive(Clone, Copy, PartialEq, Eq, Debug)]
+pub struct Bounds {
+    pub first: u64,
+    pub end: u64,
+}
+
+// The A field of a configuration byte. (As a `From<u8>` it would say that the byte is no more than that.)
 pub fn matching_of(byte: u8) -> Matching
     ensures { result ≡ matching_of byte }
 {
@@ -17,51 +25,53 @@ pub fn matching_of(byte: u8) -> Matching
     }
 }
 
-// How many ones the register ends in.
-fn ones_below(address: u64) -> u32
-    requires { address < 2 ^ 60 }
-    ensures { (result ≡ trailing_ones 64 address) × (result ≤ 60) }
-{
-    address.trailing_ones()
-}
-
 // The bounds of a naturally aligned power of two.
-fn napot(address: u64) -> (u64, u64)
-    requires { address < 2 ^ 60 }
-    ensures { (result.0 ≡ napot_first (trailing_ones 64 address) address) × (result.1 ≡ result.0 + 2 ^ (trailing_ones 64 address + 3)) }
+fn napot<const F: u32>(address: Field<F>) -> Bounds
+    ensures first { result.first ≡ napot_first (trailing_ones 64 address.entry.value) address.entry.value }
+    ensures end { result.end ≡ result.first + 2 ^ (trailing_ones 64 address.entry.value + 3) }
 {
-    let n = ones_below(address);
-    let cleared = address >> (n + 1) << (n + 1);
+    let n = address.trailing_ones();
+    let cleared = address.value >> (n + 1) << (n + 1);
     let first = 4 * cleared;
-    (first, first + (1u64 << (n + 3)))
+    Bounds {
+        first,
+        end: first + (1u64 << (n + 3)),
+    }
 }
 
-// The bounds that two address registers give, which leave room for 64-bit sums.
-fn bounds_of(matching: Matching, address: u64, below: u64) -> (u64, u64)
-    requires address { address < 2 ^ 60 }
-    requires below { below < 2 ^ 60 }
-    ensures value { result ≡ resolved matching address below }
-    ensures block { NapotBlock matching address result }
+// The bounds that two address registers give.
+pub(crate) fn bounds_of<const F: u32>(
+    matching: Matching,
+    address: Field<F>,
+    below: Field<F>,
+) -> Bounds
+    ensures value { pair_of result ≡ resolved matching address.entry.value below.entry.value }
+    ensures block { NapotBlock matching address.entry.value (pair_of result) }
 {
     match matching {
-        Matching::Off => (0, 0),
-        Matching::Tor => (4 * below, 4 * address),
-        Matching::Na4 => (4 * address, 4 * address + 4),
+        Matching::Off => Bounds { first: 0, end: 0 },
+        Matching::Tor => Bounds {
+            first: 4 * below.value,
+            end: 4 * address.value,
+        },
+        Matching::Na4 => Bounds {
+            first: 4 * address.value,
+            end: 4 * address.value + 4,
+        },
         Matching::Napot => napot(address),
     }
 }
 
-// The first byte and the end of an entry with this address register, where `below` is that of the entry below; each counts as a field
-// of F bits.
+// The bounds of an entry with this address register, where `below` is that of the entry below; each counts as a field of F bits.
 pub fn resolve<const F: u32>(
     bits: FieldBits<F>,
     matching: Matching,
     address: u64,
     below: u64,
-) -> (u64, u64)
-    ensures value { result ≡ resolved matching (address % 2 ^ F) (below % 2 ^ F) }
-    ensures block { NapotBlock matching (address % 2 ^ F) result }
+) -> Bounds
+    ensures value { pair_of result ≡ resolved matching (address % 2 ^ F) (below % 2 ^ F) }
+    ensures block { NapotBlock matching (address % 2 ^ F) (pair_of result) }
     ensures fields { FieldLaws F }
 {
-    bounds_of(matching, bits.field(address), bits.field(below))
+    bounds_of(matching, Field::of(bits, address), Field::of(bits, below))
 }

@@ -3,13 +3,15 @@
 
 pub mod bounds;
 pub mod check;
-mod context;
+pub mod context;
 pub mod entries;
+mod field;
 mod lookup;
 pub mod matching;
 pub mod refusal;
 pub mod registers;
 mod reports;
 mod rv32;
+mod span;
 pub mod table;
 mod writes;

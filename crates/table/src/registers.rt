@@ -1,22 +1,34 @@
 // The registers of a table, whatever the width of its address fields.
-ghost use Rattle.std.specs.Prelude.{◌≡◌, ◌+◌, ◌^◌, ◌<◌, ◌≤◌};
-ghost use Rattle.access.specs.Cases.{Does};
-ghost use Rattle.table.specs.Registers.{AllLegal, with_address_at, with_config_at, with_switch, zeros};
+ghost use Rattle.std.specs.Prelude.{◌≡◌, ◌+◌, ◌<◌, ◌≤◌, IfOk};
+ghost use Rattle.access.specs.Cases.{Gives, Does};
+ghost use Rattle.table.specs.Registers.{with_address_at, with_config_at, with_switch, zeros, Same};
 ghost use Rattle.table.specs.Tables.{regs};
 ghost use Rattle.table.specs.RegisterCalls.{register_report, no_register, kept_byte, entry_written, bytes_written};
 
 use super::entries::PlainTable;
+use super::field::Field;
 use super::refusal::RegisterRefusal;
 use super::table::Table;
 use access::field_bits::FieldBits;
 use book::book::RuleBook;
 use std::marker::PhantomData;
 
+// The number of a register, of which there are COUNT.
+pub(crate) fn register<const COUNT: usize>(n: usize) -> Result<usize, RegisterRefusal>
+    ensures number { Gives register_report (no_register COUNT n) (λ v. v ≡ n) result }
+    ensures below { IfOk result (λ v. v < COUNT) }
+{
+    if n < COUNT {
+        Ok(n)
+    } else {
+        Err(RegisterRefusal::NoSuchRegister)
+    }
+}
+
 impl<B: RuleBook, const F: u32> Table<B, F> {
     // A table whose registers are all zero.
     pub fn new(bits: FieldBits<F>) -> Self
-        ensures zero { regs result ≡ zeros }
-        ensures legal { AllLegal B.meaning (regs result) }
+        ensures { regs result ≡ zeros }
     {
         let plain = PlainTable::zeroed(bits);
         Table {
@@ -26,10 +38,9 @@ impl<B: RuleBook, const F: u32> Table<B, F> {
     }
 
     // Writes an address register.
-    pub(crate) fn set_address(&mut self, i: usize, value: u64)
-        requires entry { i < 64 }
-        requires value { value < 2 ^ F }
-        ensures { regs self.new ≡ with_address_at (regs self.old) i value }
+    pub(crate) fn set_address(&mut self, i: usize, value: Field<F>)
+        requires { i < 64 }
+        ensures { regs self.new ≡ with_address_at (regs self.old) i value.entry.value }
     {
         self.plain.write_address(i, value);
     }
@@ -47,13 +58,10 @@ impl<B: RuleBook, const F: u32> Table<B, F> {
 
     // Writes the configuration byte of entry n by the book's rule, and its address register, which keeps F bits.
     pub fn write_entry(&mut self, n: usize, byte: u8, address: u64) -> Result<(), RegisterRefusal>
-        ensures legal { AllLegal B.meaning (regs self.old) → AllLegal B.meaning (regs self.new) }
-        ensures written { Does register_report (no_register 64 n) (λ _. regs self.new ≡ entry_written F B.meaning (regs self.old) n byte address) (regs self.new ≡ regs self.old) result }
+        ensures { Does register_report (no_register 64 n) (λ _. regs self.new ≡ entry_written F B.meaning (regs self.old) n byte address) (regs self.new ≡ regs self.old) result }
     {
-        if n >= 64 {
-            return Err(RegisterRefusal::NoSuchRegister);
-        }
-        let field = self.plain.bits.field(address);
+        let n = register::<64>(n)?;
+        let field = Field::of(self.plain.bits, address);
         self.write_byte(n, byte);
         self.set_address(n, field);
         Ok(())
@@ -66,15 +74,23 @@ impl<B: RuleBook, const F: u32> Table<B, F> {
         self.plain.write_switches(switches);
     }
 
-    // Writes the lowest bytes of a word to the entries from `start` on, each by the book's rule.
-    pub(crate) fn write_bytes(&mut self, start: usize, count: usize, word: u64)
-        requires count { count ≤ 8 }
-        requires room { start + count ≤ 64 }
-        ensures { regs self.new ≡ bytes_written B.meaning (regs self.old) start word count }
+    // Writes the bytes of a word to four entries, the lowest first, each by the book's rule.
+    pub(crate) fn write_bytes(&mut self, start: usize, word: u32)
+        requires { start + 4 ≤ 64 }
+        ensures { regs self.new ≡ bytes_written B.meaning (regs self.old) start word 4 }
     {
         let bytes = word.to_le_bytes();
-        for k in 0..count {
-            self.write_byte(start + k, bytes[k]);
+        for (k, &byte) in bytes.iter().enumerate() {
+            self.write_byte(start + k, byte);
         }
+    }
+
+    // Takes over the registers of another table of the book.
+    pub fn copy_registers(&mut self, from: &Self)
+        ensures equal { regs self.new ≡ regs from.now }
+        ensures same { Same (regs self.new) (regs from.now) }
+    {
+        self.plain.entries = from.plain.entries;
+        self.plain.switches = from.plain.switches;
     }
 }

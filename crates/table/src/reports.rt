@@ -1,13 +1,13 @@
 // The numbers of refusals.
-ghost use Rattle.std.specs.Prelude.{◌≡◌};
 ghost use Rattle.table.specs.RegisterCalls.{register_report};
 
 use super::refusal::RegisterRefusal;
+use access::numbered::Numbered;
 
-impl RegisterRefusal {
-    pub fn number(self) -> u8
-        ensures { result ≡ (register_report self).number }
-    {
+impl Numbered for RegisterRefusal {
+    ghost report = { register_report };
+
+    fn number(self) -> u8 {
         match self {
             RegisterRefusal::NoSuchRegister => 31,
             RegisterRefusal::ShortBuffer => 32,

@@ -1,16 +1,15 @@
 // A table of entries under a rule book, with address fields of F bits.
-ghost use Rattle.table.specs.Registers.{AddressesBelow};
-ghost use Rattle.table.specs.Entries.{registers, Kept};
+ghost use Rattle.table.specs.Registers.{AllLegal};
+ghost use Rattle.table.specs.Entries.{registers_of};
 
 use super::entries::PlainTable;
 use book::book::RuleBook;
 use std::marker::PhantomData;
 
-// The address registers are fields of F bits, and the bounds that are kept are those of the registers as they stand.
+// Every configuration byte is one that the book holds for legal.
 #[derive(Drop)]
 pub struct Table<B: RuleBook, const F: u32> {
     pub(crate) plain: PlainTable<F>,
     pub(crate) book: PhantomData<B>,
-    ghost below: { AddressesBelow F (registers plain) },
-    ghost kept: { Kept plain },
+    pub ghost legal: { AllLegal B.RuleBook.meaning (registers_of plain.entries plain.switches) },
 }

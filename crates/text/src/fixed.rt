@@ -1,54 +1,66 @@
 // Numbers that print in a fixed count of digits: the lowest ones, with leading zeros.
 ghost use Rattle.std.specs.Prelude.{Some};
+ghost use Rattle.std.specs.Fmt.{WritesOnOk};
 ghost use Rattle.text.specs.Digits.{digits};
 
-use super::digits::write_digits;
+use super::radix::{Decimal, Hexadecimal, Radix};
 use std::fmt;
+use std::marker::PhantomData;
+
+// A number that prints as its lowest COUNT digits.
+// Unlike `{:02}` or `{:08x}`, a number too large for its digits prints its lowest ones, as the formats want.
+#[derive(Clone, Copy)]
+pub struct Digits<R, const COUNT: u32> {
+    pub value: u64,
+    radix: PhantomData<R>,
+}
 
 // Two decimal digits.
-#[derive(Clone, Copy)]
-pub struct Decimal2(pub u8);
-
-impl fmt::Display for Decimal2 {
-    ghost output = { λ x. Some (digits 10 2 x.0) };
-
-    fn fmt<W: fmt::Write>(&self, f: &mut fmt::Formatter<W>) -> fmt::Result {
-        write_digits(f, 10, 2, u64::from(self.0))
-    }
-}
+pub type Decimal2 = Digits<Decimal, 2>;
 
 // A byte in two hexadecimal digits.
-#[derive(Clone, Copy)]
-pub struct Hex2(pub u8);
-
-impl fmt::Display for Hex2 {
-    ghost output = { λ x. Some (digits 16 2 x.0) };
-
-    fn fmt<W: fmt::Write>(&self, f: &mut fmt::Formatter<W>) -> fmt::Result {
-        write_digits(f, 16, 2, u64::from(self.0))
-    }
-}
+pub type Hex2 = Digits<Hexadecimal, 2>;
 
 // A word in eight hexadecimal digits.
-#[derive(Clone, Copy)]
-pub struct Hex8(pub u32);
+pub type Hex8 = Digits<Hexadecimal, 8>;
 
-impl fmt::Display for Hex8 {
-    ghost output = { λ x. Some (digits 16 8 x.0) };
+// An address in nine hexadecimal digits.
+pub type Hex9 = Digits<Hexadecimal, 9>;
 
-    fn fmt<W: fmt::Write>(&self, f: &mut fmt::Formatter<W>) -> fmt::Result {
-        write_digits(f, 16, 8, u64::from(self.0))
+impl<R: Radix, const COUNT: u32> Digits<R, COUNT> {
+    pub fn new<N: Into<u64>>(value: N) -> Self
+        ensures { N.converts value result.value }
+    {
+        Digits {
+            value: value.into(),
+            radix: PhantomData,
+        }
     }
 }
 
-// An address in nine hexadecimal digits.
-#[derive(Clone, Copy)]
-pub struct Hex9(pub u64);
-
-impl fmt::Display for Hex9 {
-    ghost output = { λ x. Some (digits 16 9 x.0) };
+impl<R: Radix, const COUNT: u32> fmt::Display for Digits<R, COUNT> {
+    ghost output = { λ x. Some (digits R.BASE COUNT x.value) };
 
     fn fmt<W: fmt::Write>(&self, f: &mut fmt::Formatter<W>) -> fmt::Result {
-        write_digits(f, 16, 9, self.0)
+        write_digits::<R, W>(f, COUNT, self.value)
     }
+}
+
+// Writes the lowest `count` digits of a number in base R, highest first.
+fn write_digits<R: Radix, W: fmt::Write>(
+    f: &mut fmt::Formatter<W>,
+    count: u32,
+    n: u64,
+) -> fmt::Result
+    ensures { WritesOnOk W.write_str_gives f.old result (digits R.BASE count n) f.new }
+{
+    if count == 0 {
+        return Ok(());
+    }
+    let base = R::BASE;
+    let base_wide = u64::from(base);
+    write_digits::<R, W>(f, count - 1, n / base_wide)?;
+    let lowest = (n % base_wide) as u32;
+    let last = char::from_digit(lowest, base).unwrap();
+    write!(f, "{last}")
 }

@@ -1,5 +1,5 @@
 // Numbers in a fixed count of digits.
 #![tactic(auto)]
 
-mod digits;
 pub mod fixed;
+pub mod radix;

@@ -1,5 +1,6 @@
 // Runs: the same calls on two rule books and two memories.
 use access::field_bits::FieldBits;
+use book::book::RuleBook;
 use book::guest_book::GuestBook;
 use book::spmp_book::SpmpBook;
 use grants::call::PlanCall;
@@ -7,6 +8,7 @@ use grants::plan::Plan;
 use grants::resident::ResidentPlan;
 use history::call::{Access, Answer, Call};
 use memory::bank::Bank;
+use memory::memory::Memory;
 use memory::ram::Ram;
 use run::runs::run;
 use run::turn::Turn;
@@ -69,28 +71,23 @@ fn show_all(rt: &HostRuntime, turns: Vec<Turn>) -> anyhow::Result<()> {
     Ok(())
 }
 
-fn spmp_run(rt: &HostRuntime, memory: &mut Ram<32>) -> anyhow::Result<()> {
-    println!(rt; "-- a run: SPMP book, RAM")?;
+// The same calls under a rule book, beside a memory.
+fn run_of<B: RuleBook, M: Memory<32>>(
+    rt: &HostRuntime,
+    title: &str,
+    memory: &mut M,
+) -> anyhow::Result<()> {
+    println!(rt; "-- {title}")?;
     let bits = FieldBits::rv32();
-    let turns = run::<ResidentPlan<SpmpBook, 32>, Ram<32>, 32>(rt.alloc(), bits, memory, &calls())?;
-    show_all(rt, turns)
-}
-
-fn guest_run(rt: &HostRuntime, memory: &mut Bank<32>) -> anyhow::Result<()> {
-    println!(rt; "-- the same run: guest book, bank")?;
-    let bits = FieldBits::rv32();
-    let turns = run::<ResidentPlan<GuestBook, 32>, Bank<32>, 32>(
-        rt.alloc(),
-        bits,
-        memory,
-        &calls(),
-    )?;
+    let turns = run::<ResidentPlan<B, 32>, M, 32>(rt.alloc(), bits, memory, &calls())?;
     show_all(rt, turns)
 }
 
 pub(crate) fn runs(rt: &HostRuntime) -> anyhow::Result<()> {
     let bits = FieldBits::rv32();
     let mut buffer = [0u8; 64];
-    spmp_run(rt, &mut Ram::new(bits, &mut buffer))?;
-    guest_run(rt, &mut Bank::new(bits))
+    let mut ram = Ram::new(bits, &mut buffer);
+    run_of::<SpmpBook, _>(rt, "a run: SPMP book, RAM", &mut ram)?;
+    let mut bank = Bank::new(bits);
+    run_of::<GuestBook, _>(rt, "the same run: guest book, bank", &mut bank)
 }

@@ -1,6 +1,7 @@
-// A hart leads two tasks beside a memory, one call after the other.
-use crate::calls::{answered, fetch, load, store};
+// A hart leads two tasks beside a memory, one call after the other. (The demonstration prints the like over a plan.)
+use crate::calls::{read, store, told};
 use crate::windows::windows;
+use access::access::Reading;
 use access::field_bits::FieldBits;
 use book::spmp_book::SpmpBook;
 use grants::plan::Plan;
@@ -23,17 +24,17 @@ fn grant(
     rights: u64,
 ) -> io::Result<()> {
     print!(rt; "grant to task {task} of {length} bytes at {base}, rights {rights}")?;
-    answered(rt, hart.grant(task, base, length, rights))
+    told(rt, hart.grant(task, base, length, rights))
 }
 
 fn withdraw(rt: &HostRuntime, hart: &mut SpmpHart, task: u64, base: u64) -> io::Result<()> {
     print!(rt; "withdraw from task {task} what begins at {base}")?;
-    answered(rt, hart.withdraw(task, base))
+    told(rt, hart.withdraw(task, base))
 }
 
 fn select(rt: &HostRuntime, hart: &mut SpmpHart, task: u64) -> io::Result<()> {
     print!(rt; "select task {task}")?;
-    answered(rt, hart.select(task))
+    told(rt, hart.select(task))
 }
 
 fn grants(rt: &HostRuntime, hart: &mut SpmpHart) -> io::Result<()> {
@@ -54,14 +55,14 @@ fn first_task<M: Memory<32>>(
     println!(rt; "-- task 0 is entered")?;
     let task = hart.enter();
     store(rt, &task, memory, 8, 4, 0xcafe)?;
-    load(rt, &task, memory, 8, 4)?;
-    load(rt, &task, memory, 32, 4)?;
-    load(rt, &task, memory, 30, 4)?;
-    fetch(rt, &task, memory, 8, 4)?;
+    read(rt, &task, memory, Reading::Load, 8, 4)?;
+    read(rt, &task, memory, Reading::Load, 32, 4)?;
+    read(rt, &task, memory, Reading::Load, 30, 4)?;
+    read(rt, &task, memory, Reading::Fetch, 8, 4)?;
     store(rt, &task, memory, 68, 4, 0x1234)?;
-    load(rt, &task, memory, 68, 4)?;
+    read(rt, &task, memory, Reading::Load, 68, 4)?;
     store(rt, &task, memory, 68, 1, 0xff)?;
-    load(rt, &task, memory, 0, 3)?;
+    read(rt, &task, memory, Reading::Load, 0, 3)?;
     Ok(task.trap())
 }
 
@@ -73,9 +74,9 @@ fn second_task<M: Memory<32>>(
 ) -> io::Result<SpmpHart> {
     println!(rt; "-- task 1 is entered")?;
     let task = hart.enter();
-    fetch(rt, &task, memory, 32, 4)?;
+    read(rt, &task, memory, Reading::Fetch, 32, 4)?;
     store(rt, &task, memory, 32, 4, 1)?;
-    load(rt, &task, memory, 8, 4)?;
+    read(rt, &task, memory, Reading::Load, 8, 4)?;
     Ok(task.trap())
 }
 
@@ -90,8 +91,8 @@ fn withdrawal<M: Memory<32>>(
     withdraw(rt, &mut hart, 0, 0)?;
     select(rt, &mut hart, 0)?;
     let task = hart.enter();
-    load(rt, &task, memory, 8, 4)?;
-    load(rt, &task, memory, 68, 4)?;
+    read(rt, &task, memory, Reading::Load, 8, 4)?;
+    read(rt, &task, memory, Reading::Load, 68, 4)?;
     Ok(task.trap())
 }
 
@@ -100,7 +101,7 @@ fn lead<M: Memory<32>>(rt: &HostRuntime, memory: &mut M) -> io::Result<()> {
     grants(rt, &mut hart)?;
     println!(rt; "-- entered before any selection")?;
     let task = hart.enter();
-    load(rt, &task, memory, 8, 4)?;
+    read(rt, &task, memory, Reading::Load, 8, 4)?;
     hart = task.trap();
     select(rt, &mut hart, 0)?;
     hart = first_task(rt, hart, memory)?;

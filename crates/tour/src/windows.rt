@@ -1,6 +1,7 @@
 // The supervisor's accesses to user memory, with SUM clear and in a window.
-use crate::calls::{refused, valued};
+use crate::calls::told;
 use crate::session::SpmpHart;
+use access::access::Reading;
 use grants::plan::Plan;
 use hart::status::Status;
 use hart::user_memory::load_through;
@@ -17,7 +18,7 @@ fn load<M: Memory<32>>(
 ) -> io::Result<()> {
     let sum = if status.sum() { "set" } else { "clear" };
     print!(rt; "supervisor load of 4 at {address}, SUM {sum}")?;
-    valued(rt, hart.load(status, memory, address, 4))
+    told(rt, hart.read(status, memory, Reading::Load, address, 4))
 }
 
 // Leaves a pointer to the word at 8 in user memory.
@@ -30,10 +31,7 @@ fn put_pointer<M: Memory<32>>(
     let window = Window::open(status);
     load(rt, hart, window.status(), memory, 8)?;
     print!(rt; "supervisor store of 4 at 16, value 8, in the window")?;
-    match hart.store(window.status(), memory, 16, 4, 8) {
-        Ok(()) => println!(rt; ": ok"),
-        Err(refusal) => refused(rt, refusal),
-    }
+    told(rt, hart.store(window.status(), memory, 16, 4, 8))
 }
 
 fn follow<M: Memory<32>>(
@@ -44,7 +42,7 @@ fn follow<M: Memory<32>>(
     pointer: u64,
 ) -> io::Result<()> {
     print!(rt; "load through the pointer at {pointer}")?;
-    valued(rt, load_through(hart, status, memory, pointer))?;
+    told(rt, load_through(hart, status, memory, pointer))?;
     let word = status.word();
     println!(rt; "status word afterwards: {word:08x}")
 }

@@ -1,18 +1,9 @@
-use Rattle.std.proofs.Common.{ℕ, List, sym, ap, ◌∙◌, subst, add-zero}
+use Rattle.std.proofs.Common.{List, None, sym, ap, ◌∙◌, subst}
 use Rattle.std.proofs.lemmas.Result.{err_from_is_err_and}
 use Rattle.grants.specs.declared.call.PlanCall.{PlanCall}
-use Rattle.loading.specs.Grants.{task_grants}
-use Rattle.loading.specs.Played.{Outcome, played}
-use Rattle.loading.proofs.Steps.{task_on, task_stop, task_end}
+use Rattle.loading.specs.Played.{Outcome}
+use Rattle.loading.proofs.Steps.{task_step, task_end}
 use Rattle.loading.proofs.load.load_task.Goals as goal
-
-pub loop-i-init : goal.loop-i-init
-loop-i-init g c =
-    λ cs st. (
-      cs,
-      st,
-      ap (λ (n : ℕ). played g.row.F g.P.Plan.plan.terms cs (task_grants c.args.task n c.args.regions.now)) (sym (add-zero c.args.first)),
-    )
 
 pub loop-i-preserved : goal.loop-i-preserved
 loop-i-preserved g c =
@@ -21,7 +12,7 @@ loop-i-preserved g c =
       _,
       c.grant_region.ensures.calls s.0 s.1,
       s.2
-          ∙ task_on g.row.F g.P.Plan.plan.terms s.0 c.args.task c.args.first c.loop-i.i _ c.args.regions.now c.loop-i-test.true
+          ∙ task_step g.row.F g.P.Plan.plan.terms s.0 c.args.task c.args.first c.loop-i.i _ c.args.regions.now c.loop-i-test.true None
           (c.in_ok-grant_region.ensures.answer s.0 s.1),
     )
 
@@ -31,7 +22,7 @@ returns-in_err-grant_region g c =
     let ended = λ (cs : List PlanCall) (st : g.P.Plan.stands c.args.plan.now cs).
     let s = c.loop-i.invariant cs st in
     s.2
-    ∙ task_stop g.row.F g.P.Plan.plan.terms s.0 c.args.task c.args.first c.loop-i.i _ c.args.regions.now c.loop-i-test.true _
+    ∙ task_step g.row.F g.P.Plan.plan.terms s.0 c.args.task c.args.first c.loop-i.i _ c.args.regions.now c.loop-i-test.true _
     (c.in_err-grant_region.ensures.answer s.0 s.1) in
     record {
       calls = λ cs st.

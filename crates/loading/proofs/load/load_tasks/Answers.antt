@@ -1,17 +1,14 @@
-use Rattle.std.proofs.Common.{List, sym, refl, ap, ◌∙◌, subst, arith}
+use Rattle.std.proofs.Common.{List, None, sym, ap, ◌∙◌, subst, arith}
 use Rattle.std.proofs.lemmas.Result.{err_from_is_err_and}
 use Rattle.grants.specs.declared.call.PlanCall.{PlanCall}
 use Rattle.loading.specs.Played.{Outcome}
 use Rattle.loading.proofs.Parts.{within}
-use Rattle.loading.proofs.Steps.{tasks_on, tasks_stop, tasks_end}
+use Rattle.loading.proofs.Steps.{tasks_step, tasks_end}
 use Rattle.loading.proofs.load.load_tasks.Goals as goal
 
 pub slice_bounds-load_task-end : goal.slice_bounds-load_task-end
 slice_bounds-load_task-end g c =
     let h = within c.args.tasks.now c.loop-task.task (record { first = 0; count = 0 }) c.requires.0 c.loop-task-test.true in omega (arith, c.requires.1)
-
-pub loop-task-init : goal.loop-task-init
-loop-task-init g c = λ cs st. (cs, st, refl)
 
 pub loop-task-preserved : goal.loop-task-preserved
 loop-task-preserved g c =
@@ -20,7 +17,7 @@ loop-task-preserved g c =
       _,
       c.load_task.ensures.calls s.0 s.1,
       s.2
-          ∙ tasks_on g.row.F g.P.Plan.plan.terms s.0 c.loop-task.task (record { first = 0; count = 0 }) c.args.tasks.now c.args.regions.now _ c.loop-task-test.true (omega arith)
+          ∙ tasks_step g.row.F g.P.Plan.plan.terms s.0 c.loop-task.task (record { first = 0; count = 0 }) c.args.tasks.now c.args.regions.now _ c.loop-task-test.true (omega arith) None
           (c.in_ok-load_task.ensures.answer s.0 s.1),
     )
 
@@ -30,7 +27,7 @@ returns-in_err-load_task g c =
     let ended = λ (cs : List PlanCall) (st : g.P.Plan.stands c.args.plan.now cs).
     let s = c.loop-task.invariant cs st in
     s.2
-    ∙ tasks_stop g.row.F g.P.Plan.plan.terms s.0 c.loop-task.task (record { first = 0; count = 0 }) c.args.tasks.now c.args.regions.now _ c.loop-task-test.true (omega arith) _
+    ∙ tasks_step g.row.F g.P.Plan.plan.terms s.0 c.loop-task.task (record { first = 0; count = 0 }) c.args.tasks.now c.args.regions.now _ c.loop-task-test.true (omega arith) _
     (c.in_err-load_task.ensures.answer s.0 s.1) in
     record {
       calls = λ cs st.

@@ -1,5 +1,5 @@
 use Rattle.std.proofs.Common.{◌≡◌, ℕ, ◌+◌, ◌^◌, sym, ap, ◌∙◌, subst₂, arith, rules}
-use Rattle.table.specs.Bounds.{resolved, trailing_ones, NapotBlock}
+use Rattle.table.specs.Bounds.{resolved, pair_of, trailing_ones, NapotBlock}
 use Rattle.table.specs.declared.matching.Matching.{Matching}
 use Rattle.table.specs.declared.matching.Matching.TheVariants.{Napot}
 use Rattle.table.proofs.Trailing.{napot_block}
@@ -7,23 +7,24 @@ use Rattle.table.proofs.bounds.bounds_of.Goals as goal
 
 pub returns-in-Off : goal.returns-in-Off
 unfolding resolved
-returns-in-Off c = search rules
+returns-in-Off g c = search rules
 
 pub returns-in-Tor : goal.returns-in-Tor
 unfolding resolved
-returns-in-Tor c = search rules
+returns-in-Tor g c = search rules
 
 pub returns-in-Na4 : goal.returns-in-Na4
 unfolding resolved
-returns-in-Na4 c = search rules
+returns-in-Na4 g c = search rules
 
 pub returns-in-Napot : goal.returns-in-Napot
 unfolding resolved
-returns-in-Napot c =
+returns-in-Napot g c =
     let m = c.in-Napot.is in
-    let e : c.napot.result ≡ resolved Napot c.args.address c.args.below =
-    λ i. (c.napot.ensures.0 i, (c.napot.ensures.1 ∙ ap (λ (x : ℕ). x + 2 ^ (trailing_ones 64 c.args.address + 3)) c.napot.ensures.0) i) in
+    let n = trailing_ones 64 c.args.address.value in
+    let e : pair_of c.napot.result ≡ resolved Napot c.args.address.value c.args.below.value =
+    λ i. (c.napot.ensures.first i, (c.napot.ensures.end ∙ ap (λ (x : ℕ). x + 2 ^ (n + 3)) c.napot.ensures.first) i) in
     record {
-      value = e ∙ ap (λ (x : Matching). resolved x c.args.address c.args.below) (sym m);
-      block = subst₂ (λ (x : Matching) (r : ℕ × ℕ). NapotBlock x c.args.address r) (sym m) (sym e) (napot_block 64 c.args.address (omega arith));
+      value = e ∙ ap (λ (x : Matching). resolved x c.args.address.value c.args.below.value) (sym m);
+      block = subst₂ (λ (x : Matching) (r : ℕ × ℕ). NapotBlock x c.args.address.value r) (sym m) (sym e) (napot_block 64 c.args.address.value (omega arith));
     }

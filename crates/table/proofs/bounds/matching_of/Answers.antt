@@ -4,24 +4,6 @@ use Rattle.book.specs.Bits.{a_field}
 use Rattle.table.specs.Bounds.{matching_at}
 use Rattle.table.proofs.bounds.matching_of.Goals as goal
 
-pub returns-in-0 : goal.returns-in-0
-returns-in-0 c =
-    let m = and_mask (c.args.byte / 2 ^ 3) 2 in
-    let h : a_field c.args.byte ≡ 0 = omega arith in
-    sym (ap matching_at h)
-
-pub returns-in-1 : goal.returns-in-1
-returns-in-1 c =
-    let m = and_mask (c.args.byte / 2 ^ 3) 2 in
-    let h : a_field c.args.byte ≡ 1 = omega arith in
-    sym (ap matching_at h)
-
-pub returns-in-2 : goal.returns-in-2
-returns-in-2 c =
-    let m = and_mask (c.args.byte / 2 ^ 3) 2 in
-    let h : a_field c.args.byte ≡ 2 = omega arith in
-    sym (ap matching_at h)
-
 pub returns-in_default : goal.returns-in_default
 returns-in_default c =
     let m = and_mask (c.args.byte / 2 ^ 3) 2 in

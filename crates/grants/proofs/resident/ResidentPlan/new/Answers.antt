@@ -1,18 +1,19 @@
-use Rattle.std.proofs.Common.{None, refl, ◌∙◌}
-use Rattle.grants.specs.Resolving.{Standing}
-use Rattle.grants.proofs.OwnerRegisters.{zero_image}
+use Rattle.std.proofs.Common.{None, sym, subst, rules}
+use Rattle.table.specs.Tables.{regs}
+use Rattle.grants.specs.Resolving.{Placed}
 use Rattle.grants.proofs.Agreeing.{start_placed}
 use Rattle.grants.proofs.Active.{selected_shown}
 use Rattle.grants.proofs.resident.ResidentPlan.new.Goals as goal
 
-pub returns : goal.returns
-returns g c =
-    let m = g.B.RuleBook.meaning in
-    let e = c.new.ensures.zero ∙ zero_image m None in
-    let st : Standing g.row.F m _ _ None = record { resident = e; placed = start_placed g.row.F } in
-    record {
-      owners = refl;
-      selected = refl;
-      registers = e;
-      stands = (st, selected_shown g.row.F m g.met.B.RuleBook.lawful _ _ None st);
-    }
+pub invariant_of-result : goal.invariant_of-result
+invariant_of-result g c = record {
+  stands = record {
+    resident = c.new.ensures.registers;
+    placed = subst (Placed g.row.F) (sym c.new.ensures.owners) (start_placed g.row.F);
+  };
+}
+
+pub returns-clause-shown : goal.returns-clause-shown
+returns-clause-shown g c =
+    let e = c.new.result in
+    selected_shown g.row.F g.B.RuleBook.meaning g.met.B.RuleBook.lawful (regs e.table) e.owners.cells None (search rules)

@@ -9,16 +9,16 @@ use Rattle.grants.proofs.resident.ResidentPlan.registers_of.Goals as goal
 pub returns : goal.returns
 returns g c =
     let m = g.B.RuleBook.meaning in
+    let f = g.row.F in
     let n = c.args.n in
-    let os = c.args.self.now.owners.cells in
+    let p = c.args.self.now in
+    let os = p.entries.owners.cells in
     let o = c.owner_of-owner.ensures in
-    let e = c.byte_of.ensures ∙ ap (byte_of m) o in
+    let byte = c.byte_of.ensures ∙ ap (byte_of m) o in
+    let fits = subst (OwnerFits f) (sym o) (placed_fits f os p.stands.placed n) in
     record {
-      byte = e;
-      registers = λ st.
-          let fits = subst (OwnerFits g.row.F) (sym o) (placed_fits g.row.F os st.placed n) in (
-            e ∙ sym (ap (λ (r : Registers). r.config n) st.resident),
-            c.address_of.ensures fits ∙ ap address_of o ∙ sym (ap (λ (r : Registers). r.address n) st.resident),
-          );
-      regions = region_shown g.row.F m g.met.B.RuleBook.lawful;
+      byte = byte;
+      config = byte ∙ sym (ap (λ (r : Registers). r.config n) p.stands.resident);
+      address = c.address_of.ensures fits ∙ ap address_of o ∙ sym (ap (λ (r : Registers). r.address n) p.stands.resident);
+      regions = region_shown f m g.met.B.RuleBook.lawful;
     }

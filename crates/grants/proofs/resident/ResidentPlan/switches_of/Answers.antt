@@ -6,11 +6,10 @@ use Rattle.grants.proofs.Switches.{bit_of_bits}
 use Rattle.grants.proofs.Untouched.{others_untouched}
 use Rattle.grants.proofs.resident.ResidentPlan.switches_of.Goals as goal
 
-pub returns : goal.returns
-returns g c =
-    let os = c.args.self.now.owners.cells in
-    record {
-      value = c.switches.ensures;
-      bits = λ i h. ap (λ (x : ℕ). bit x i) c.switches.ensures ∙ bit_of_bits (λ k. switched_on (Some c.args.task) (owner_at os k)) 64 i h;
-      others = others_untouched g.row.F;
-    }
+pub returns-clause-bits : goal.returns-clause-bits
+returns-clause-bits g c i h =
+    let os = c.args.self.now.entries.owners.cells in
+    ap (λ (x : ℕ). bit x i) c.switches.ensures ∙ bit_of_bits (λ k. switched_on (Some c.args.task) (owner_at os k)) 64 i h
+
+pub returns-clause-others : goal.returns-clause-others
+returns-clause-others g c = others_untouched g.row.F

@@ -23,6 +23,5 @@ returns g c =
         plan_laws = st.plan_laws;
         owners = e.owners ∙ ap (λ (os : List Owner). after_grant f os a.task a.base a.length a.rights) st.owners;
         selection = e.selected ∙ st.selection;
-        registers = e.registers st.registers;
       };
     }

@@ -11,5 +11,4 @@ returns g c =
       plan_laws = resident_laws g.row.F g.B.RuleBook.meaning l;
       owners = c.new.ensures.owners;
       selection = c.new.ensures.selected;
-      registers = c.new.ensures.registers;
     }

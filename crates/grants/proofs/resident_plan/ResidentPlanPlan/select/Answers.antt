@@ -14,6 +14,5 @@ returns g c =
         plan_laws = st.plan_laws;
         owners = e.owners ∙ st.owners;
         selection = e.selected ∙ ap (λ (s : Option ℕ). after_select s c.args.task) st.selection;
-        registers = e.registers st.registers;
       };
     }

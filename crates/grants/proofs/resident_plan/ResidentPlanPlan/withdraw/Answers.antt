@@ -22,6 +22,5 @@ returns g c =
         plan_laws = st.plan_laws;
         owners = e.owners ∙ ap (λ (os : List Owner). after_withdraw os a.task a.base) st.owners;
         selection = e.selected ∙ st.selection;
-        registers = e.registers st.registers;
       };
     }

@@ -1,12 +1,5 @@
-use Rattle.std.proofs.Common.{refl}
 use Rattle.memory.proofs.Delivered.{pair_of}
 use Rattle.memory.proofs.pair.Pair.new.Goals as goal
 
-pub returns : goal.returns
-returns g c =
-    let m = g.A.Memory.meaning c.args.first in
-    let n = g.B.Memory.meaning c.args.second in
-    record {
-      held = (refl, refl);
-      pair = pair_of g.row.F m n c.args._bits.fits (g.A.Memory.lawful c.args.first) (g.B.Memory.lawful c.args.second);
-    }
+pub returns-clause-pair : goal.returns-clause-pair
+returns-clause-pair g c = pair_of g.row.F _ _ c.args._bits.fits (g.A.Memory.lawful c.args.first) (g.B.Memory.lawful c.args.second)

@@ -6,5 +6,5 @@ use Rattle.table.proofs.context.Table+B+32.restore_configs.Given as goal
 
 abbrev pub invariant-loop-n : goal.invariant-loop-n
 invariant-loop-n g l =
-    (r : Registers) (k : ℕ) → regs l.initial.self ≡ restored_to g.B.RuleBook.meaning r (words_of l.buffer) k 0
-    → regs l.self ≡ restored_to g.B.RuleBook.meaning r (words_of l.buffer) k l.n
+    (r : Registers) (k : ℕ) → regs l.initial.self ≡ restored_to g.B.RuleBook.meaning r (words_of l.words) k 0
+    → regs l.self ≡ restored_to g.B.RuleBook.meaning r (words_of l.words) k l.n

@@ -1,7 +1,7 @@
 use Rattle.std.proofs.Common.{ℕ, ◌<◌}
-use Rattle.table.specs.Entries.{registers}
+use Rattle.table.specs.Tables.{registers}
 use Rattle.table.specs.Checks.{Holds}
 use Rattle.table.proofs.entries.PlainTable.deciding.Given as goal
 
 abbrev pub invariant-loop-i : goal.invariant-loop-i
-invariant-loop-i g l = (k : ℕ) → k < l.i → Holds (registers l.self) k l.address l.width → ⊥
+invariant-loop-i g l = (k : ℕ) → k < l.i → Holds (registers l.self) k l.span.address l.span.width → ⊥

@@ -1,49 +1,46 @@
-use Rattle.std.proofs.Common.{ℕ, ◌^◌, ◌<◌, sym, subst, arith, lit<, rules}
-use Rattle.table.specs.Entries.{registers}
-use Rattle.table.proofs.EntryLists.{readdressed_last, readdressed_above, kept_readdressed, readdressed_registers, below_fits, below_readdressed, address_set, address_above}
+use Rattle.std.proofs.Common.{ℕ, ◌+◌, ◌^◌, ◌<◌, sym, ap, ◌∙◌, subst, mod-eq_of_lt, arith, rules}
+use Rattle.table.specs.Registers.{with_address_at}
+use Rattle.table.specs.Tables.{registers}
+use Rattle.table.specs.declared.entries.Entry.{Entry}
+use Rattle.table.proofs.EntryLists.{addresses_set, address_written, none_written, fresh_over, kept_last, kept_above}
 use Rattle.table.proofs.entries.PlainTable.write_address.Goals as goal
-
-pub refresh-requires : goal.refresh-requires
-refresh-requires g c =
-    let t = c.args.self.now in
-    let i = c.args.i in
-    let v = c.args.value in (
-      lit< tt,
-      (
-        subst (λ (x : ℕ). x < 2 ^ g.row.F) (sym (address_set t.entries i (search rules) c.requires.entry v)) c.requires.value,
-        subst (λ (x : ℕ). x < 2 ^ g.row.F) (sym c.below-below.ensures) (below_fits g.row.F (registers t) c.requires.below i c.requires.entry),
-      ),
-    )
-
-pub refresh-requires-then-i-lt64 : goal.refresh-requires-then-i-lt64
-refresh-requires-then-i-lt64 g c =
-    let t = c.args.self.now in
-    let i = c.args.i in (
-      lit< tt,
-      (
-        subst (λ (x : ℕ). x < 2 ^ g.row.F) (sym (address_above t.entries i (search rules) c.requires.entry _ _)) (c.requires.below _ (omega arith)),
-        c.requires.value,
-      ),
-    )
 
 pub returns-then-i-lt64 : goal.returns-then-i-lt64
 returns-then-i-lt64 g c =
     let t = c.args.self.now in
-    let e = readdressed_above t.entries c.args.i c.args.value _ (search rules) c.below-below.ensures _ c.refresh.ensures _ (omega arith) c.refresh-then-i-lt64.ensures in
-    let w = readdressed_registers t.entries _ (search rules) c.args.i (omega arith) t.switches c.args.value e in
-    record {
-      written = w;
-      below = below_readdressed g.row.F _ _ c.args.i c.args.value c.requires.value w c.requires.below;
-      kept = kept_readdressed t.entries _ (search rules) c.args.i (omega arith) c.args.value e c.requires.kept;
-    }
+    let x = c.over.ensures in
+    let y = c.over-then-i-lt64.ensures in
+    let a = c.of-address.ensures ∙ mod-eq_of_lt (search rules) in
+    none_written _ _ _ (search rules) t.switches (ap (λ (e : Entry). e.config) y) (ap (λ (e : Entry). e.address) y ∙ a)
+    ∙ address_written t.entries c.args.i _ (omega arith) t.switches (ap (λ (e : Entry). e.config) x)
+    ∙ ap (λ (e : Entry). with_address_at (registers t) c.args.i e.address) x
 
 pub returns-else-i-lt64 : goal.returns-else-i-lt64
 returns-else-i-lt64 g c =
     let t = c.args.self.now in
-    let e = readdressed_last t.entries c.args.i c.args.value _ (search rules) c.below-below.ensures _ c.refresh.ensures (omega arith) (omega arith) in
-    let w = readdressed_registers t.entries _ (search rules) c.args.i (omega arith) t.switches c.args.value e in
-    record {
-      written = w;
-      below = below_readdressed g.row.F _ _ c.args.i c.args.value c.requires.value w c.requires.below;
-      kept = kept_readdressed t.entries _ (search rules) c.args.i (omega arith) c.args.value e c.requires.kept;
-    }
+    let x = c.over.ensures in
+    address_written t.entries c.args.i _ (omega arith) t.switches (ap (λ (e : Entry). e.config) x)
+    ∙ ap (λ (e : Entry). with_address_at (registers t) c.args.i e.address) x
+
+pub invariant_of-self-clause-kept : goal.invariant_of-self-clause-kept
+invariant_of-self-clause-kept g c =
+    let t = c.args.self.now in
+    let i = c.args.i in
+    let x = c.over.ensures in
+    let y = c.over-then-i-lt64.ensures in
+    let a = c.of-address.ensures ∙ mod-eq_of_lt (search rules) in
+    kept_above t.entries i (i + 1) _ _ t.switches (omega arith) (search rules) (fresh_over _ _ _ _ _ x c.below-below.ensures)
+    (ap (λ (e : Entry). e.address) y ∙ a) (fresh_over _ _ _ _ _ y (sym (ap (λ (e : Entry). e.address) x))) t.kept
+
+pub invariant_of-self-else-i-lt64-clause-kept : goal.invariant_of-self-else-i-lt64-clause-kept
+invariant_of-self-else-i-lt64-clause-kept g c =
+    let t = c.args.self.now in
+    kept_last t.entries c.args.i _ t.switches (search rules) (omega arith) (fresh_over _ _ _ _ _ c.over.ensures c.below-below.ensures) t.kept
+
+pub invariant_of-self-clause-below : goal.invariant_of-self-clause-below
+invariant_of-self-clause-below g c =
+    let t = c.args.self.now in
+    let x = ap (λ (e : Entry). e.address) c.over.ensures in
+    let y = ap (λ (e : Entry). e.address) c.over-then-i-lt64.ensures in
+    addresses_set g.row.F _ _ _ t.switches (search rules) (subst (λ (n : ℕ). n < 2 ^ g.row.F) (sym y) c.of-address.result.fits)
+    (addresses_set g.row.F t.entries c.args.i _ t.switches (omega arith) (subst (λ (n : ℕ). n < 2 ^ g.row.F) (sym x) c.args.value.fits) t.below)

@@ -3,8 +3,7 @@ use Rattle.table.specs.Registers.{AllLegal}
 use Rattle.table.proofs.Legality.{zeros_legal}
 use Rattle.table.proofs.table.Table.new.Goals as goal
 
-pub returns : goal.returns
-returns g c =
+pub invariant_of-result : goal.invariant_of-result
+invariant_of-result g c =
     let m = g.B.RuleBook.meaning in
-    let e = c.zeroed-plain.ensures.written in
-    record { zero = e; legal = subst (AllLegal m) (sym e) (zeros_legal m g.met.B.RuleBook.lawful) }
+    record { legal = subst (AllLegal m) (sym c.zeroed-plain.ensures) (zeros_legal m g.met.B.RuleBook.lawful) }
