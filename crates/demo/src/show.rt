@@ -23,7 +23,7 @@ pub(crate) fn tell<R: Numbered>(
     }
 }
 
-// The registers of a table, by kind.
+// The registers of a table, by kind. (As closures, each call would write the method and its arguments out.)
 #[derive(Clone, Copy)]
 pub enum Register {
     Address,
