@@ -1,4 +1,5 @@
-// A hart in supervisor mode and one in user mode, as two types: a call that the mode does not allow does not compile.
+// A hart in supervisor mode and one in user mode, as two types: a call that the mode does not allow does not compile. (One type with a
+// marker would need an impl for each marker, as there is now one for each type.)
 
 // A hart in supervisor mode: it makes calls on its plan and enters the selected task.
 #[derive(Drop)]

@@ -14,6 +14,7 @@ pub struct Entry {
     pub bounds: Bounds,
 }
 
+// The switch bits stand beside the entries and not in them, since the switch words are registers of their own.
 // Functions take an entry's number below 64 as it is: an index type would be made of each loop's number, by the same bound.
 // Bit i of the switches belongs to entry i. The address registers are fields of F bits, and the bounds that are kept are those of the
 // registers as they stand.
