@@ -15,16 +15,23 @@ use Rattle.grants.specs.declared.region.Form.TheVariants.{Na4, Napot, Pair}
 use Rattle.grants.specs.declared.owner.Owner.{Owner}
 use Rattle.grants.specs.declared.owner.Owner.TheVariants.{Free, Lower, Upper}
 
+pub lowest_start : (p : ℕ → Bool) → lowest p 0 ≡ None
+unfolding lowest
+lowest_start p = refl
+
 lowest_next : (p : ℕ → Bool) (i : ℕ) → lowest p i ≡ None → p i ≡ false → lowest p (suc i) ≡ None
 unfolding lowest
 lowest_next p i n f = ap (λ (o : Option ℕ). or_else o (cond (p i) (Some i) None)) n ∙ cond-false (p i) (Some i) None f
+
+pub lowest_more : (p : ℕ → Bool) (i : ℕ) → lowest p i ≡ None → p i ≡ false → lowest p (i + 1) ≡ None
+lowest_more p i n f = ap (lowest p) (add-one i) ∙ lowest_next p i n f
 
 lowest_none : (p : ℕ → Bool) (n : ℕ) → ((k : ℕ) → k < n → p k ≡ false) → lowest p n ≡ None
 unfolding lowest
 lowest_none p zero h = refl
 lowest_none p (suc n) h = lowest_next p n (lowest_none p n (λ k l. h k (omega arith))) (h n (omega arith))
 
-lowest_found : (p : ℕ → Bool) (i n : ℕ) → i < n → lowest p i ≡ None → p i ≡ true → lowest p n ≡ Some i
+pub lowest_found : (p : ℕ → Bool) (i n : ℕ) → i < n → lowest p i ≡ None → p i ≡ true → lowest p n ≡ Some i
 unfolding lowest
 lowest_found p i zero h e t = absurd (omega arith)
 lowest_found p i (suc n) h e t = ⊎_elim

@@ -40,13 +40,16 @@ impl Owners {
         self.cells.iter().position(|owner| owner.is_free())
     }
 
-    // The lower of the lowest free neighbours.
+    // The lower of the lowest free neighbours. (Not over windows: of a walk that began elsewhere, these would say nothing provable.)
     fn lowest_pair(&self) -> Option<usize>
         ensures { result ≡ lowest (free_pair_at self.now.cells) 63 }
     {
-        self.cells
-            .array_windows::<2>()
-            .position(|[lower, upper]| lower.is_free() && upper.is_free())
+        for i in 0..63 {
+            if self.cells[i].is_free() & self.cells[i + 1].is_free() {
+                return Some(i);
+            }
+        }
+        None
     }
 
     // The lowest room for a region of a form.

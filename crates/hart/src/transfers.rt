@@ -23,7 +23,8 @@ fn not_admitted(request: Request, entry: u8) -> Refusal
     })
 }
 
-// Loads a value, or fetches an instruction.
+// Loads a value, or fetches an instruction. Inlined, as the store is, so that constants in a request shorten it.
+#[inline]
 pub(crate) fn read<P: Plan<F>, M: Memory<F>, const F: u32>(
     plan: &P,
     memory: &M,
@@ -40,6 +41,7 @@ pub(crate) fn read<P: Plan<F>, M: Memory<F>, const F: u32>(
 }
 
 // Stores the low bytes of a value.
+#[inline]
 pub(crate) fn store<P: Plan<F>, M: Memory<F>, const F: u32>(
     plan: &P,
     memory: &mut M,

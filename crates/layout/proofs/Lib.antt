@@ -1,5 +1,6 @@
 pub mod Firsts
 pub mod Parting
+pub mod Joining
 pub mod Fronts
 pub mod Whole
 pub mod Accepting

@@ -40,11 +40,7 @@ fn napot<const F: u32>(address: Field<F>) -> Bounds
 }
 
 // The bounds that two address registers give.
-pub(crate) fn bounds_of<const F: u32>(
-    matching: Matching,
-    address: Field<F>,
-    below: Field<F>,
-) -> Bounds
+fn bounds_of<const F: u32>(matching: Matching, address: Field<F>, below: Field<F>) -> Bounds
     ensures value { pair_of result ≡ resolved matching address.entry.value below.entry.value }
     ensures block { NapotBlock matching address.entry.value (pair_of result) }
 {

@@ -42,7 +42,8 @@ impl<B: RuleBook, const F: u32> Table<B, F> {
         }
     }
 
-    // Checks an access: the entry that passes it, 64 for none, or why it is refused.
+    // Checks an access: the entry that passes it, 64 for none, or why it is refused. Inlined, so that constants in a request shorten it.
+    #[inline(always)]
     pub fn check(&self, request: Request) -> Result<u8, Refusal>
         ensures answer { Checked F B.meaning (regs self.now) request.mode request.sum request.kind request.address request.width result }
         ensures one { OneAnswer F B.meaning }

@@ -1,24 +1,38 @@
 // Writes to the registers of a plain table.
-ghost use Rattle.std.specs.Prelude.{◌≡◌, ◌<◌};
+ghost use Rattle.std.specs.Prelude.{◌≡◌, ◌^◌, ◌<◌};
 ghost use Rattle.table.specs.Registers.{with_address_at, with_config_at, with_switch, zeros};
 ghost use Rattle.table.specs.Entries.{entry_over, below_of};
 ghost use Rattle.table.specs.Tables.{registers};
 
-use super::bounds::{Bounds, bounds_of, matching_of};
+use super::bounds::{Bounds, matching_of, resolve};
 use super::entries::{Entry, PlainTable};
 use super::field::Field;
 use access::field_bits::FieldBits;
 
 impl Entry {
-    // The entry of two registers, its bounds resolved over the address register below it.
-    fn over<const F: u32>(below: Field<F>, config: u8, address: Field<F>) -> Self
-        ensures { result ≡ entry_over below.entry.value config address.entry.value }
+    // Resolves the bounds anew over the address register below.
+    fn refresh<const F: u32>(&mut self, bits: FieldBits<F>, below: Field<F>)
+        requires { self.old.address < 2 ^ F }
+        ensures { self.new ≡ entry_over below.entry.value self.old.config self.old.address }
     {
-        Entry {
-            config,
-            address: address.value,
-            bounds: bounds_of(matching_of(config), address, below),
-        }
+        self.bounds = resolve(bits, matching_of(self.config), self.address, below.value);
+    }
+
+    // Takes another address register.
+    fn set_address<const F: u32>(&mut self, bits: FieldBits<F>, below: Field<F>, address: Field<F>)
+        ensures { self.new ≡ entry_over below.entry.value self.old.config address.entry.value }
+    {
+        self.address = address.value;
+        self.refresh(bits, below);
+    }
+
+    // Takes another configuration byte.
+    fn set_config<const F: u32>(&mut self, bits: FieldBits<F>, below: Field<F>, config: u8)
+        requires { self.old.address < 2 ^ F }
+        ensures { self.new ≡ entry_over below.entry.value config self.old.address }
+    {
+        self.config = config;
+        self.refresh(bits, below);
     }
 }
 
@@ -60,17 +74,16 @@ impl<const F: u32> PlainTable<F> {
     }
 
     // Writes an address register, and resolves its entry and the one above.
+    #[inline]
     pub(crate) fn write_address(&mut self, i: usize, value: Field<F>)
         requires { i < 64 }
         ensures { registers self.new ≡ with_address_at (registers self.old) i value.entry.value }
     {
         let bits = self.bits;
         let below = self.below(i);
-        self.entries[i] = Entry::over(below, self.entries[i].config, value);
+        self.entries[i].set_address(bits, below, value);
         if i + 1 < 64 {
-            let above = self.entries[i + 1];
-            let address = Field::of(bits, above.address);
-            self.entries[i + 1] = Entry::over(value, above.config, address);
+            self.entries[i + 1].refresh(bits, value);
         }
     }
 
@@ -79,9 +92,9 @@ impl<const F: u32> PlainTable<F> {
         requires { i < 64 }
         ensures { registers self.new ≡ with_config_at (registers self.old) i byte }
     {
+        let bits = self.bits;
         let below = self.below(i);
-        let address = self.address(i);
-        self.entries[i] = Entry::over(below, byte, address);
+        self.entries[i].set_config(bits, below, byte);
     }
 
     // Writes the switch bits.

@@ -1,4 +1,4 @@
-use Rattle.std.proofs.Common.{◌≡◌, count_by, ◌∙◌, rules}
+use Rattle.std.proofs.Common.{◌≡◌, count_by, arith, rules}
 use Rattle.grants.specs.Owners.{holds}
 use Rattle.grants.proofs.Walks.{count_held}
 use Rattle.grants.proofs.owner.Owners.regions_of.Goals as goal
@@ -8,4 +8,4 @@ returns c =
     let t = c.args.task in
     let os = c.args.self.now.cells in
     let e : c.count.result ≡ count_by (holds t) os = search rules in
-    e ∙ count_held os t (search rules)
+    omega (arith, e, count_held os t (search rules))

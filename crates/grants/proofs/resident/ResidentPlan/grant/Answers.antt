@@ -1,4 +1,4 @@
-use Rattle.std.proofs.Common.{◌≡◌, Some, None, sym, refl, ap, ◌∙◌, subst, lit<, rules}
+use Rattle.std.proofs.Common.{◌≡◌, Some, None, sym, refl, ap, ◌∙◌, subst, lit<, arith, rules}
 use Rattle.std.proofs.lemmas.Result.{err_from_is_err_and}
 use Rattle.table.specs.Tables.{regs}
 use Rattle.grants.specs.Regions.{form_of}
@@ -36,7 +36,7 @@ returns-in_default g c =
     let a = c.args in
     let p = a.self.now in
     let os = p.entries.owners.cells in
-    let same = c.form-form.ensures ∙ form_asked f os a.task a.base a.length a.rights c.in_ok-region.region c.in_ok-region.ensures.1 in
+    let same : c.form-form.result ≡ form_of a.base a.length = grind (arith, c.form-form.ensures, form_asked f os a.task a.base a.length a.rights c.in_ok-region.region c.in_ok-region.ensures.1) in
     let n : room_for os (form_of a.base a.length) ≡ None = ap (room_for os) (sym same) ∙ sym c.room.ensures ∙ c.in_default.is in
     let x = answer_full f os a.task a.base a.length a.rights c.in_ok-region.ensures.0 n in
     record {
@@ -65,7 +65,7 @@ invariant_of-self g c =
     let p = a.self.now in
     let os = p.entries.owners.cells in
     let q = c.in_ok-region.ensures in
-    let same = c.form-form.ensures ∙ form_asked f os a.task a.base a.length a.rights c.in_ok-region.region q.1 in
+    let same : c.form-form.result ≡ form_of a.base a.length = grind (arith, c.form-form.ensures, form_asked f os a.task a.base a.length a.rights c.in_ok-region.region q.1) in
     let made = grant_made f os a.task a.base a.length a.rights q.0 c.switch_on.new.self.owners.cells _ _ _ _ same c.room.ensures c.in-Some.is q.1
     (c.switch_on.ensures.owners ∙ c.occupy.ensures) in
     record {
@@ -83,7 +83,7 @@ returns g c =
     let os = p.entries.owners.cells in
     let q = c.in_ok-region.ensures in
     let last = c.switch_on.new.self in
-    let same = c.form-form.ensures ∙ form_asked f os a.task a.base a.length a.rights c.in_ok-region.region q.1 in
+    let same : c.form-form.result ≡ form_of a.base a.length = grind (arith, c.form-form.ensures, form_asked f os a.task a.base a.length a.rights c.in_ok-region.region q.1) in
     let made = grant_made f os a.task a.base a.length a.rights q.0 last.owners.cells _ _ _ _ same c.room.ensures c.in-Some.is q.1
     (c.switch_on.ensures.owners ∙ c.occupy.ensures) in
     record {
