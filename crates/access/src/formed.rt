@@ -10,13 +10,13 @@ use super::range::ends_within;
 use super::refusal::Refusal;
 
 impl Kind {
-    // Whether an access of this kind may have that many bytes.
+    // Whether an access of this kind may have that many bytes. By `|`, without a branch: widths come in no order that one could foresee.
     pub fn has_width(self, width: u64) -> bool
         ensures { result ≡ width_of self width }
     {
         match self {
-            Kind::Load | Kind::Store => matches!(width, 1 | 2 | 4 | 8),
-            Kind::Fetch => matches!(width, 2 | 4),
+            Kind::Load | Kind::Store => (width == 1) | (width == 2) | (width == 4) | (width == 8),
+            Kind::Fetch => (width == 2) | (width == 4),
         }
     }
 }
